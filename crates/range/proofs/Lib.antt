@@ -1,0 +1,4 @@
+pub mod Places
+pub mod ShapeLaws
+pub mod Taking
+pub mod Filling

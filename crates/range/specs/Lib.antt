@@ -1,0 +1,5 @@
+pub mod Questions
+pub mod Shapes
+pub mod Making
+pub mod Sheets
+pub mod Walks

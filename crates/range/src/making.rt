@@ -1,0 +1,90 @@
+// Making a sheet from its parts.
+ghost use mathlib.Core.Path.{_≡_};
+ghost use mathlib.Core.List.{[]};
+ghost use mathlib.Core.Bool.{true, false};
+ghost use Prim.Native.Nat.{_*_, _≤_};
+ghost use lib.ListN.{length};
+ghost use Rattle.std.specs.Results.{isOk};
+ghost use Rattle.std.specs.declared.result.Result.«the-variants».{Ok};
+ghost use Rattle.range.specs.Questions.{«refusal-of», «first-no»};
+ghost use Rattle.range.specs.Shapes.{span, Lawful, «rows-of», «columns-of», limited, ordered};
+ghost use Rattle.range.specs.Making.{told, making, «corner-questions»};
+ghost use Rattle.range.specs.Sheets.{sheet, «made-of», «empty-sheet»};
+use crate::corners::Corners;
+use crate::fault::RangeFault;
+use crate::sheet::Range;
+
+// How many there are from the first to the last.
+pub(crate) fn span(first: u32, last: u32) -> usize
+    requires ordered { ⌜ first ≤ last ⌝ }
+    ensures { λ r. ⌜ r ≡ span first last ⌝ }
+{
+    (last - first) as usize + 1
+}
+
+// The questions put to corners alone: each axis runs forwards, and both end within the limits of a sheet.
+pub(crate) fn ask_corners(corners: Corners) -> Result<(), RangeFault>
+    ensures { λ r. ⌜ «refusal-of» told r ≡ «first-no» («corner-questions» corners []) ⌝ }
+{
+    if corners.first_row > corners.last_row {
+        return Err(RangeFault::Reversed);
+    }
+    if corners.first_column > corners.last_column {
+        return Err(RangeFault::Reversed);
+    }
+    if corners.last_row > 1_048_575 {
+        return Err(RangeFault::PastLimits);
+    }
+    if corners.last_column > 16_383 {
+        return Err(RangeFault::PastLimits);
+    }
+    Ok(())
+}
+
+// Rows times columns, the true product: at most 2^34.
+pub(crate) fn cell_count(corners: Corners) -> usize
+    requires ordered { ⌜ ordered corners ≡ true ⌝ }
+    requires limited { ⌜ limited corners ≡ true ⌝ }
+    ensures { λ r. ⌜ r ≡ «rows-of» corners * «columns-of» corners ⌝ }
+{
+    let rows = span(corners.first_row, corners.last_row);
+    let columns = span(corners.first_column, corners.last_column);
+    rows * columns
+}
+
+impl<'a, T> Range<'a, T> {
+    // The sheet without rows, columns or text.
+    pub fn empty() -> Range<'a, T>
+        ensures { λ r. ⌜ sheet r ≡ «empty-sheet» ⌝ }
+    {
+        Range {
+            corners: None,
+            cells: &[],
+            text: &[],
+        }
+    }
+
+    // Makes this the sheet of these corners, cells and text; a refusal leaves it as it was.
+    pub fn make(
+        &mut self,
+        corners: Corners,
+        cells: &'a [T],
+        text: &'a [u8],
+    ) -> Result<(), RangeFault>
+        ensures answers { λ r. ⌜ «refusal-of» told r ≡ making corners (length (now (cells .entry))) ⌝ }
+        ensures made { λ r. ⌜ (r ≡ Ok tt → sheet (now (self .exit)) ≡ «made-of» corners (now (cells .entry)) (now (text .entry))) ⌝ }
+        ensures kept { λ r. ⌜ (isOk r ≡ false → now (self .exit) ≡ now (self .entry)) ⌝ }
+        ensures lawful { λ r. ⌜ (Lawful corners (length (now (cells .entry))) → r ≡ Ok tt) × (r ≡ Ok tt → Lawful corners (length (now (cells .entry)))) ⌝ }
+    {
+        ask_corners(corners)?;
+        if cells.len() != cell_count(corners) {
+            return Err(RangeFault::CellCount);
+        }
+        *self = Range {
+            corners: Some(corners),
+            cells,
+            text,
+        };
+        Ok(())
+    }
+}
