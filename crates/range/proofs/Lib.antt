@@ -1,3 +1,4 @@
+pub mod QuestionLaws
 pub mod Places
 pub mod ShapeLaws
 pub mod Taking

@@ -2,12 +2,13 @@
 ghost use mathlib.Core.Path.{_≡_};
 ghost use mathlib.Core.List.{[]};
 ghost use mathlib.Core.Bool.{true, false};
-ghost use Prim.Native.Nat.{_*_, _≤_};
+ghost use Prim.Native.Nat.{_*_, _^_, _≤_};
 ghost use lib.ListN.{length};
 ghost use Rattle.std.specs.Results.{isOk};
+ghost use Rattle.std.specs.Vec.{made};
 ghost use Rattle.std.specs.declared.result.Result.«the-variants».{Ok};
 ghost use Rattle.range.specs.Questions.{«refusal-of», «first-no»};
-ghost use Rattle.range.specs.Shapes.{span, Lawful, «rows-of», «columns-of», limited, ordered};
+ghost use Rattle.range.specs.Shapes.{span, Lawful, «rows-of», «columns-of»};
 ghost use Rattle.range.specs.Making.{told, making, «corner-questions»};
 ghost use Rattle.range.specs.Sheets.{sheet, «made-of», «empty-sheet»};
 use crate::corners::Corners;
@@ -23,7 +24,7 @@ pub(crate) fn span(first: u32, last: u32) -> usize
 }
 
 // The questions put to corners alone: each axis runs forwards, and both end within the limits of a sheet.
-pub(crate) fn ask_corners(corners: Corners) -> Result<(), RangeFault>
+fn ask_corners(corners: Corners) -> Result<(), RangeFault>
     ensures { λ r. ⌜ «refusal-of» told r ≡ «first-no» («corner-questions» corners []) ⌝ }
 {
     if corners.first_row > corners.last_row {
@@ -41,15 +42,18 @@ pub(crate) fn ask_corners(corners: Corners) -> Result<(), RangeFault>
     Ok(())
 }
 
-// Rows times columns, the true product: at most 2^34.
-pub(crate) fn cell_count(corners: Corners) -> usize
-    requires ordered { ⌜ ordered corners ≡ true ⌝ }
-    requires limited { ⌜ limited corners ≡ true ⌝ }
-    ensures { λ r. ⌜ r ≡ «rows-of» corners * «columns-of» corners ⌝ }
-{
-    let rows = span(corners.first_row, corners.last_row);
-    let columns = span(corners.first_column, corners.last_column);
-    rows * columns
+impl Corners {
+    // How many cells a sheet of these corners has: rows times columns, the true product, at most 2^34.
+    pub fn cell_count(&self) -> Result<usize, RangeFault>
+        ensures answers { λ r. ⌜ «refusal-of» told r ≡ «first-no» («corner-questions» (now (self .entry)) []) ⌝ }
+        ensures count { λ r. ⌜ made r (λ n. n ≡ «rows-of» (now (self .entry)) * «columns-of» (now (self .entry))) ⌝ }
+        ensures bound { λ r. ⌜ made r (λ n. n ≤ 2 ^ 34) ⌝ }
+    {
+        ask_corners(*self)?;
+        let rows = span(self.first_row, self.last_row);
+        let columns = span(self.first_column, self.last_column);
+        Ok(rows * columns)
+    }
 }
 
 impl<'a, T> Range<'a, T> {
@@ -76,8 +80,8 @@ impl<'a, T> Range<'a, T> {
         ensures kept { λ r. ⌜ (isOk r ≡ false → now (self .exit) ≡ now (self .entry)) ⌝ }
         ensures lawful { λ r. ⌜ (Lawful corners (length (now (cells .entry))) → r ≡ Ok tt) × (r ≡ Ok tt → Lawful corners (length (now (cells .entry)))) ⌝ }
     {
-        ask_corners(corners)?;
-        if cells.len() != cell_count(corners) {
+        let count = corners.cell_count()?;
+        if cells.len() != count {
             return Err(RangeFault::CellCount);
         }
         *self = Range {

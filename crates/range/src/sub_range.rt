@@ -12,8 +12,6 @@ ghost use Rattle.range.specs.Making.{told, copying};
 ghost use Rattle.range.specs.Sheets.{sheet, «part-cell», «part-cells»};
 use crate::corners::Corners;
 use crate::fault::RangeFault;
-use crate::making::ask_corners;
-use crate::making::cell_count;
 use crate::making::span;
 use crate::sheet::Range;
 
@@ -35,13 +33,14 @@ impl<'a, T: Copy> Range<'a, T> {
     }
 
     // Each cell of the part to its place in the front of the store.
-    fn copy_cells(&self, corners: Corners, empty: T, store: &mut [T])
+    fn copy_cells(&self, corners: Corners, count: usize, empty: T, store: &mut [T])
+        requires count { ⌜ count ≡ «rows-of» corners * «columns-of» corners ⌝ }
         requires ordered { ⌜ ordered corners ≡ true ⌝ }
         requires limited { ⌜ limited corners ≡ true ⌝ }
-        requires room { ⌜ «rows-of» corners * «columns-of» corners ≤ length (now store) ⌝ }
+        requires room { ⌜ count ≤ length (now store) ⌝ }
         ensures { λ _. ⌜ now (store .exit) ≡ «part-cells» (sheet (now (self .entry))) corners empty ++ drop («rows-of» corners * «columns-of» corners) (now (store .entry)) ⌝ }
     {
-        for place in 0..cell_count(corners) {
+        for place in 0..count {
             store[place] = self.cell_or(corners, empty, place);
         }
     }
@@ -59,12 +58,11 @@ impl<'a, T: Copy> Range<'a, T> {
         ensures copied { λ r. ⌜ (isOk r ≡ true → now (store .exit) ≡ «part-cells» (sheet (now (self .entry))) corners empty ++ drop («rows-of» corners * «columns-of» corners) (now (store .entry))) ⌝ }
         ensures kept { λ r. ⌜ (isOk r ≡ false → now (store .exit) ≡ now (store .entry)) ⌝ }
     {
-        ask_corners(corners)?;
-        let count = cell_count(corners);
+        let count = corners.cell_count()?;
         if store.len() < count {
             return Err(RangeFault::StoreShort);
         }
-        self.copy_cells(corners, empty, store);
+        self.copy_cells(corners, count, empty, store);
         Ok(count)
     }
 }

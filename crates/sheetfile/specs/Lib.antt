@@ -1,0 +1,5 @@
+pub mod Bytes
+pub mod CellCode
+pub mod Contents
+pub mod Files
+pub mod Reading
