@@ -3,4 +3,4 @@ pub mod cell_error_type;
 pub mod data;
 pub mod excel_date_time;
 mod serial;
-mod showing;
+pub mod showing;

@@ -8,4 +8,4 @@ pub mod rows;
 mod shape;
 pub mod sheet;
 mod sub_range;
-mod walks;
+pub mod walks;

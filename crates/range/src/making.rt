@@ -15,6 +15,20 @@ use crate::corners::Corners;
 use crate::fault::RangeFault;
 use crate::sheet::Range;
 
+impl RangeFault {
+    // The number of the refusal.
+    pub fn number(&self) -> u8
+        ensures { λ r. ⌜ r ≡ told (now (self .entry)) .number ⌝ }
+    {
+        match *self {
+            RangeFault::Reversed => 1,
+            RangeFault::PastLimits => 2,
+            RangeFault::CellCount => 3,
+            RangeFault::StoreShort => 20,
+        }
+    }
+}
+
 // How many there are from the first to the last.
 pub(crate) fn span(first: u32, last: u32) -> usize
     requires ordered { ⌜ first ≤ last ⌝ }

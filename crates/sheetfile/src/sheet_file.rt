@@ -17,6 +17,19 @@ use crate::refused::Refused;
 use datatype::data::Data;
 use range::sheet::Range;
 
+impl FileFault {
+    // The number of the refusal.
+    pub fn number(&self) -> u8
+        ensures { λ r. ⌜ r ≡ told (now (self .entry)) .number ⌝ }
+    {
+        match *self {
+            FileFault::Contents => 18,
+            FileFault::Sheet(fault) => fault.number(),
+            FileFault::Cell(_) => 19,
+        }
+    }
+}
+
 // Fills the front of the store with the cells of the file, each at its place in the sheet.
 // A no before the cells leaves the store as it was; a bad cell leaves those before it written.
 pub fn fill_cells(file: &[u8], store: &mut [Data]) -> Result<(), FileFault>
