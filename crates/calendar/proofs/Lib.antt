@@ -1,0 +1,7 @@
+mod Years
+pub mod Unique
+pub mod Days
+mod Rounding
+mod Fractions
+mod Acceptance
+mod Replies
