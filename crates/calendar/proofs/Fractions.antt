@@ -24,12 +24,16 @@ pub whole-value : (n : ℕ) → n ≤ 2 ^ 53 → HasValue (ofInt binary64 (pos n
 unfolding ofInt
 whole-value n h = round-whole binary64 false n h
 
-pub whole-part : (x : Float) (r : ℕ) → Under x (2 ^ 32) → r ≡ toUnsigned 64 x → (r ≡ wholePart x) × (r < 2 ^ 32)
+-- a cast to 64 bits takes the whole part
+pub whole-part : (x : Float) (r : ℕ) → Under x (2 ^ 32) → r ≡ toUnsigned 64 x → r ≡ wholePart x
 unfolding toUnsigned
 whole-part nan r u e = absurd (u .0)
 whole-part (inf s) r u e = absurd (u .0)
 whole-part (fin true m d) r u e = absurd (true≢false (u .0 .0))
 whole-part (fin false m d) r u e = let l : m * up d / down d < 2 ^ 32 = div-lt-iff-lt-mul (down-pos d) .1 (u .1) in omega arith
+
+pub whole-bound : (x : Float) (r : ℕ) → Under x (2 ^ 32) → r ≡ toUnsigned 64 x → r < 2 ^ 32
+whole-bound x r u e = subst (λ (n : ℕ). n < 2 ^ 32) (sym (whole-part x r u e)) (div-lt-iff-lt-mul (den-pos x) .1 (u .1))
 
 -- ---- a product of two values that are not negative, by the fractions that they equal
 pub times : (f : Format) (x y : Float) (a c b d : ℕ) → 0 < c → 0 < d → HasValue x false a c → HasValue y false b d → mul f x y ≡ round f false (a * b) (c * d)
@@ -140,12 +144,16 @@ fraction-by x y k t u K e =
     ∙ ap (λ (z : ℕ). round binary64 false (num x % den x * k) z) (mul-one (den x))
 
 -- the fraction is below 1, so its product with k is at most k
-pub fraction-under : (x : Float) (k : ℕ) → k < 2 ^ 17 → Under (fractionTimes x k) (2 ^ 18)
+fraction-under : (x : Float) (k : ℕ) → k < 2 ^ 17 → Under (fractionTimes x k) (2 ^ 18)
 fraction-under x k K =
     let y = fractionTimes x k in
     let l : num x % den x * k ≤ k * den x = le-trans (mul-le-mul-right k (le-of-lt (mod-lt (num x) (den-pos x)))) (le-of-eq (mul-comm (den x) k)) in
     let b = round-at-most (num x % den x * k) (den x) k (den-pos x) l (le-trans (le-of-lt K) (lit≤ tt)) in
     (b .0, lt-of-le-of-lt (b .1) (mul-lt-mul-of-pos-right (lt-of-lt-of-le K (lit≤ tt)) (den-pos y)))
+
+-- and so for the product as the program has it
+pub fraction-by-under : (x y : Float) (k : ℕ) → T (fits binary64 x) → Under x (2 ^ 32) → k < 2 ^ 17 → y ≡ sub binary64 x (Floats.trunc binary64 x) → Under (mul binary64 y (ofInt binary64 (pos k))) (2 ^ 18)
+fraction-by-under x y k t u K e = subst (λ (z : Float). Under z (2 ^ 18)) (sym (fraction-by x y k t u (le-trans (le-of-lt K) (lit≤ tt)) e)) (fraction-under x k K)
 
 -- ---- to the nearest, halves up
 half-back : (n : ℕ) → n < 2 ^ 53 → toUnsigned 64 (round binary64 false n 1) ≡ n

@@ -1,7 +1,7 @@
 -- What a serial means: a date and a time of day, or a refusal.
 use mathlib.Core.Path.{_≡_}
 use mathlib.Core.Bool.{Bool, true, false, cond, not, _&&_, _||_}
-use Prim.Native.Nat.{ℕ, _/_, _%_}
+use Prim.Native.Nat.{ℕ, _+_, _*_, _/_, _%_, _<_}
 use lib.Dec.{eqb, leb}
 use lib.Ieee.{Float, nan, inf, fin}
 use Rattle.std.specs.declared.result.Result.{Result}
@@ -35,7 +35,13 @@ timeOf is1904 serial =
 abbrev pub answer : Bool → Float → Result CivilTime DateFault
 answer is1904 serial = cond (accepted is1904 serial) (Ok (timeOf is1904 serial)) (Err OutsideCalendar)
 
--- what an answer says, by case: its date counts to the serial's day, and no other date does; or a refusal has the number 15
+-- a time of the 24-hour clock, which with the days before it makes up so many milliseconds
+abbrev pub Clocks : CivilTime → ℕ → ℕ → Type 0
+Clocks time days total =
+    (time .hour < 24) × (time .minute < 60) × (time .second < 60) × (time .milli < 1000)
+    × ((((days * 24 + time .hour) * 60 + time .minute) * 60 + time .second) * 1000 + time .milli ≡ total)
+
+-- What an answer says, by case: its date counts to the serial's day, no other date does, and with its time it makes up the serial's milliseconds; or a refusal has the number 15.
 abbrev pub Says : Bool → Float → Result CivilTime DateFault → Type 0
-Says is1904 serial (Ok time) = CountsTo is1904 (time .date) (dayOf serial) × OnlyDate is1904 (time .date) (dayOf serial)
+Says is1904 serial (Ok time) = CountsTo is1904 (time .date) (dayOf serial) × OnlyDate is1904 (time .date) (dayOf serial) × Clocks time (dayOf serial) (millisSinceStart serial)
 Says is1904 serial (Err fault) = number fault ≡ 15

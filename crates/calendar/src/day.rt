@@ -15,6 +15,9 @@ const DAYS_IN_4_YEARS: u32 = 1_461;
 
 const DAYS_IN_YEAR: u32 = 365;
 
+/// The days of the 1900 system's own 1900, which are serial days 1 to 366.
+const DAYS_IN_OWN_1900: u32 = 366;
+
 /// The last serial day of a system: 9999-12-31.
 pub(crate) fn last_day(is_1904: bool) -> u32
     ensures { λ r. ⌜ r ≡ lastDay «is_1904» ⌝ }
@@ -87,7 +90,7 @@ fn year_of(is_1904: bool, serial_day: u32) -> YearDay
             year: 1899,
             day: 364,
         }
-    } else if serial_day <= 366 {
+    } else if serial_day <= DAYS_IN_OWN_1900 {
         YearDay {
             year: 1900,
             day: (serial_day - 1) as u16,

@@ -1,8 +1,7 @@
 use mathlib.Core.Path.{_≡_, ap, _∙_}
-use Prim.Native.Nat.{_+_, _*_}
 use native.Mathlib.Omega.{arith}
 use lib.Ieee.{Float}
-use Rattle.calendar.specs.Clock.{wholePart, fractionTimes, halfUp}
+use Rattle.calendar.specs.Clock.{wholePart, fractionTimes, halfUp, seconds, millis}
 use Rattle.calendar.proofs.Fractions.{half-bound}
 use Rattle.calendar.proofs.clock.millis_since_start.Needs as need
 
@@ -12,8 +11,8 @@ add-result-2 c = omega (arith, half-bound (c .fraction-times .result) (c .fracti
 pub returns : need.returns
 returns c =
     let day = c .whole-part-day .ensures .value in
-    let seconds = c .fraction-times-seconds .ensures .value in
-    let second = c .whole-part-second .ensures .value ∙ ap wholePart seconds in
-    let millis = c .fraction-times .ensures .value ∙ ap (λ (y : Float). fractionTimes y 1000) seconds in
-    let milli = c .half-up-milli .ensures ∙ ap halfUp millis in
-    λ i. (day i * 86400 + second i) * 1000 + milli i
+    let product = c .fraction-times-seconds .ensures .value in
+    let second = c .whole-part-second .ensures .value ∙ ap wholePart product in
+    let rest = c .fraction-times .ensures .value ∙ ap (λ (y : Float). fractionTimes y 1000) product in
+    let milli = c .half-up-milli .ensures ∙ ap halfUp rest in
+    omega arith

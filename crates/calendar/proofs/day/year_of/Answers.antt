@@ -18,11 +18,11 @@ returns-then-is-1904 c =
     let f = subst (λ (b : Bool). Found b y d n) (sym (c .if-is-1904 .taken)) (of-1904 y d n (e .low) (e .within) (e .counts)) in
     record { counts = f .0; within = f .1; low = f .2 }
 
-pub returns-else-serial-day-le366 : need.returns-else-serial-day-le366
-returns-else-serial-day-le366 c =
-    let e = c .gregorian-year-else-serial-day-le366 .ensures in
-    let y = c .gregorian-year-else-serial-day-le366 .result .year in
-    let d = c .gregorian-year-else-serial-day-le366 .result .day in
+pub returns-else-serial-day-le-DAYS-IN-OWN-1900 : need.returns-else-serial-day-le-DAYS-IN-OWN-1900
+returns-else-serial-day-le-DAYS-IN-OWN-1900 c =
+    let e = c .gregorian-year-else-serial-day-le-DAYS-IN-OWN-1900 .ensures in
+    let y = c .gregorian-year-else-serial-day-le-DAYS-IN-OWN-1900 .result .year in
+    let d = c .gregorian-year-else-serial-day-le-DAYS-IN-OWN-1900 .result .day in
     let n = c .args .serial-day in
-    let f = subst (λ (b : Bool). Found b y d n) (sym (c .if-is-1904 .left)) (of-1900 y d n (e .low) (e .within) (e .counts) (c .if-serial-day-le366 .left)) in
+    let f = subst (λ (b : Bool). Found b y d n) (sym (c .if-is-1904 .left)) (of-1900 y d n (e .low) (e .within) (e .counts) (c .if-serial-day-le-DAYS-IN-OWN-1900 .left)) in
     record { counts = f .0; within = f .1; low = f .2 }
