@@ -46,3 +46,6 @@ pub fn to_ymd_hms_milli(serial: f64, is_1904: bool) -> Result<CivilTime, DateFau
         milli: (count % MILLIS_IN_SECOND) as u16,
     })
 }
+
+#[cfg(test)]
+mod tests;

@@ -15,9 +15,9 @@ returns-then-not-serial c =
     let is1904 = c .args .is-1904 in
     let x = c .args .serial in
     let outside : accepted is1904 x ≡ false = elim (c .then-not-serial .came) [
-        | then-not-serial·by·then-not-serial w ↦ below-zero is1904 x (w .if-not-serial .taken)
-        | then-not-serial·by·else-not-serial·then-serial w ↦ past-end is1904 x (w .if-serial .taken)
-      ] in
+      | then-not-serial·by·then-not-serial w ↦ below-zero is1904 x (w .if-not-serial .taken)
+      | then-not-serial·by·else-not-serial·then-serial w ↦ past-end is1904 x (w .if-serial .taken)
+    ] in
     let refusal = refused is1904 x outside in
     record { value = cc; says = refl }
 
