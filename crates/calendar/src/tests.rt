@@ -5,205 +5,24 @@ use crate::civil::DateFaultDebug;
 use crate::civil::DateFaultPartialEq;
 use std::test::*;
 
-/// A year of a system, its February's length, and the serial day of the first of each month.
-#[derive(Clone, Copy)]
-struct YearTable {
-    is_1904: bool,
-    year: u16,
-    february: u16,
-    first_days: [u32; 12],
-}
+const COMMON: [u16; 12] = [31, 28, 31, 30, 31, 30, 31, 31, 30, 31, 30, 31];
 
-const YEARS: [YearTable; 12] = [
-    YearTable {
-        is_1904: false,
-        year: 1900,
-        february: 29,
-        first_days: [1, 32, 61, 92, 122, 153, 183, 214, 245, 275, 306, 336],
-    },
-    YearTable {
-        is_1904: false,
-        year: 1901,
-        february: 28,
-        first_days: [367, 398, 426, 457, 487, 518, 548, 579, 610, 640, 671, 701],
-    },
-    YearTable {
-        is_1904: false,
-        year: 1902,
-        february: 28,
-        first_days: [
-            732,
-            763,
-            791,
-            822,
-            852,
-            883,
-            913,
-            944,
-            975,
-            1005,
-            1036,
-            1066,
-        ],
-    },
-    YearTable {
-        is_1904: false,
-        year: 1903,
-        february: 28,
-        first_days: [
-            1097,
-            1128,
-            1156,
-            1187,
-            1217,
-            1248,
-            1278,
-            1309,
-            1340,
-            1370,
-            1401,
-            1431,
-        ],
-    },
-    YearTable {
-        is_1904: false,
-        year: 1904,
-        february: 29,
-        first_days: [
-            1462,
-            1493,
-            1522,
-            1553,
-            1583,
-            1614,
-            1644,
-            1675,
-            1706,
-            1736,
-            1767,
-            1797,
-        ],
-    },
-    YearTable {
-        is_1904: false,
-        year: 2000,
-        february: 29,
-        first_days: [
-            36526,
-            36557,
-            36586,
-            36617,
-            36647,
-            36678,
-            36708,
-            36739,
-            36770,
-            36800,
-            36831,
-            36861,
-        ],
-    },
-    YearTable {
-        is_1904: false,
-        year: 2100,
-        february: 28,
-        first_days: [
-            73051,
-            73082,
-            73110,
-            73141,
-            73171,
-            73202,
-            73232,
-            73263,
-            73294,
-            73324,
-            73355,
-            73385,
-        ],
-    },
-    YearTable {
-        is_1904: false,
-        year: 9999,
-        february: 28,
-        first_days: [
-            2958101,
-            2958132,
-            2958160,
-            2958191,
-            2958221,
-            2958252,
-            2958282,
-            2958313,
-            2958344,
-            2958374,
-            2958405,
-            2958435,
-        ],
-    },
-    YearTable {
-        is_1904: true,
-        year: 1904,
-        february: 29,
-        first_days: [0, 31, 60, 91, 121, 152, 182, 213, 244, 274, 305, 335],
-    },
-    YearTable {
-        is_1904: true,
-        year: 2000,
-        february: 29,
-        first_days: [
-            35064,
-            35095,
-            35124,
-            35155,
-            35185,
-            35216,
-            35246,
-            35277,
-            35308,
-            35338,
-            35369,
-            35399,
-        ],
-    },
-    YearTable {
-        is_1904: true,
-        year: 2100,
-        february: 28,
-        first_days: [
-            71589,
-            71620,
-            71648,
-            71679,
-            71709,
-            71740,
-            71770,
-            71801,
-            71832,
-            71862,
-            71893,
-            71923,
-        ],
-    },
-    YearTable {
-        is_1904: true,
-        year: 9999,
-        february: 28,
-        first_days: [
-            2956639,
-            2956670,
-            2956698,
-            2956729,
-            2956759,
-            2956790,
-            2956820,
-            2956851,
-            2956882,
-            2956912,
-            2956943,
-            2956973,
-        ],
-    },
+const LEAP: [u16; 12] = [31, 29, 31, 30, 31, 30, 31, 31, 30, 31, 30, 31];
+
+/// Whether the system is the 1904 one, a year, the serial of its first day, and the lengths of its months.
+const YEARS: [(bool, u16, f64, [u16; 12]); 12] = [
+    (false, 1900, 1.0, LEAP),
+    (false, 1901, 367.0, COMMON),
+    (false, 1902, 732.0, COMMON),
+    (false, 1903, 1097.0, COMMON),
+    (false, 1904, 1462.0, LEAP),
+    (false, 2000, 36526.0, LEAP),
+    (false, 2100, 73051.0, COMMON),
+    (false, 9999, 2958101.0, COMMON),
+    (true, 1904, 0.0, LEAP),
+    (true, 2000, 35064.0, LEAP),
+    (true, 2100, 71589.0, COMMON),
+    (true, 9999, 2956639.0, COMMON),
 ];
 
 /// A serial, whether it is of the 1904 system, and year, month, day, hour, minute, second and millisecond.
@@ -276,16 +95,16 @@ fn fields(time: CivilTime) -> [u16; 7] {
 
 #[test]
 fn month_edges() -> Result<(), Fail> {
-    for table in &YEARS {
-        let lengths = [31, table.february, 31, 30, 31, 30, 31, 31, 30, 31, 30, 31];
+    for (is_1904, year, first_day, lengths) in &YEARS {
+        let mut first = *first_day;
         for index in 0..12 {
             let month = index as u16 + 1;
-            let first = table.first_days[index] as f64;
-            let last = first + lengths[index] as f64 - 1.0;
-            let start = to_ymd_hms_milli(first, table.is_1904)?;
-            check_eq(fields(start), [table.year, month, 1, 0, 0, 0, 0])?;
-            let end = to_ymd_hms_milli(last, table.is_1904)?;
-            check_eq(fields(end), [table.year, month, lengths[index], 0, 0, 0, 0])?;
+            let length = lengths[index];
+            let start = to_ymd_hms_milli(first, *is_1904)?;
+            check_eq(fields(start), [*year, month, 1, 0, 0, 0, 0])?;
+            first += length as f64;
+            let end = to_ymd_hms_milli(first - 1.0, *is_1904)?;
+            check_eq(fields(end), [*year, month, length, 0, 0, 0, 0])?;
         }
     }
     Ok(())
