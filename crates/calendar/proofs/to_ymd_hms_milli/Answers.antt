@@ -15,8 +15,8 @@ returns-then-not-serial c =
     let is1904 = c .args .is-1904 in
     let x = c .args .serial in
     let outside : accepted is1904 x ≡ false = elim (c .then-not-serial .came) [
-      | then-not-serial·by·then-not-serial w ↦ below-zero is1904 x (w .if-not-serial .taken)
-      | then-not-serial·by·else-not-serial·then-serial w ↦ past-end is1904 x (w .if-serial .taken)
+      | then-not-serial·by·then-not-serial w ↦ let test = w .if-not-serial .taken in below-zero is1904 x (cc)
+      | then-not-serial·by·else-not-serial·then-serial w ↦ let test = w .if-serial .taken in past-end is1904 x (cc)
     ] in
     let refusal = refused is1904 x outside in
     record { value = cc; says = refl }
@@ -29,7 +29,7 @@ returns-then-day-last-day c =
     let is1904 = c .args .is-1904 in
     let x = c .args .serial in
     let counted = c .millis-since-start-count .ensures ∙ same-millis x (c .abs .result) (c .abs .ensures .value) in
-    let refusal = refused is1904 x (too-late is1904 x (c .millis-since-start-count .result) (c .last-day .result) (c .if-not-serial .left) (c .if-serial .left) counted (c .last-day .ensures) (c .if-day-last-day .taken)) in
+    let refusal = refused is1904 x (too-late is1904 x (c .millis-since-start-count .result) (c .last-day .result) (c .if-not-serial .left) (c .if-serial .left) counted (c .last-day .ensures) (omega arith)) in
     record { value = cc; says = refl }
 
 pub returns : need.returns
@@ -39,7 +39,7 @@ returns c =
     let count = c .millis-since-start-count .result in
     let date = c .date-of .result in
     let counted = c .millis-since-start-count .ensures ∙ same-millis x (c .abs .result) (c .abs .ensures .value) in
-    let reply = taken is1904 x (in-time is1904 x count (c .last-day .result) (c .if-not-serial .left) (c .if-serial .left) counted (c .last-day .ensures) (c .if-day-last-day .left)) in
+    let reply = taken is1904 x (in-time is1904 x count (c .last-day .result) (c .if-not-serial .left) (c .if-serial .left) counted (c .last-day .ensures) (omega arith)) in
     let dated = same-day is1904 date x count counted (c .date-of .ensures) in
     let date-by = date-is is1904 date (dayOf x) dated in
     let whole = recomposed count in

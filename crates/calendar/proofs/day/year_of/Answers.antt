@@ -1,5 +1,6 @@
 use mathlib.Core.Bool.{Bool, true, false}
 use mathlib.Core.Path.{_≡_, sym, subst}
+use native.Mathlib.Omega.{arith}
 use Prim.Native.Nat.{ℕ, _+_, _-_, _<_, _≤_}
 use Rattle.calendar.specs.Calendar.{leap, yearLength, daysOfYears, startYear, startDays}
 use Rattle.calendar.proofs.Years.{of-1904, of-1900}
@@ -15,7 +16,8 @@ returns-then-is-1904 c =
     let y = c .gregorian-year .result .year in
     let d = c .gregorian-year .result .day in
     let n = c .args .serial-day in
-    let f = subst (λ (b : Bool). Found b y d n) (sym (c .if-is-1904 .taken)) (of-1904 y d n (e .low) (e .within) (e .counts)) in
+    let counts = e .counts in
+    let f = subst (λ (b : Bool). Found b y d n) (sym (c .if-is-1904 .taken)) (of-1904 y d n (e .low) (e .within) (omega arith)) in
     record { counts = f .0; within = f .1; low = f .2 }
 
 pub returns-else-serial-day-le-DAYS-IN-OWN-1900 : need.returns-else-serial-day-le-DAYS-IN-OWN-1900
@@ -24,5 +26,6 @@ returns-else-serial-day-le-DAYS-IN-OWN-1900 c =
     let y = c .gregorian-year-else-serial-day-le-DAYS-IN-OWN-1900 .result .year in
     let d = c .gregorian-year-else-serial-day-le-DAYS-IN-OWN-1900 .result .day in
     let n = c .args .serial-day in
-    let f = subst (λ (b : Bool). Found b y d n) (sym (c .if-is-1904 .left)) (of-1900 y d n (e .low) (e .within) (e .counts) (c .if-serial-day-le-DAYS-IN-OWN-1900 .left)) in
+    let counts = e .counts in
+    let f = subst (λ (b : Bool). Found b y d n) (sym (c .if-is-1904 .left)) (of-1900 y d n (e .low) (e .within) (omega arith) (omega arith)) in
     record { counts = f .0; within = f .1; low = f .2 }
