@@ -8,18 +8,25 @@ use lib.Ieee.{Float, le}
 use Rattle.std.proofs.shelf.Tests.{le-leb, lt-leb}
 use Rattle.std.specs.declared.result.Result.the-variants.{Ok, Err}
 use Rattle.calendar.specs.declared.civil.Date.{Date}
+use Rattle.calendar.specs.declared.civil.CivilTime.{CivilTime}
 use Rattle.calendar.specs.declared.civil.DateFault.the-variants.{OutsideCalendar}
-use Rattle.calendar.specs.Calendar.{lastDay, CountsTo}
+use Rattle.calendar.specs.Calendar.{lastDay, CountsTo, dateOf}
 use Rattle.calendar.specs.Clock.{millisSinceStart}
 use Rattle.calendar.specs.Serial.{dayOf, accepted, timeOf, answer}
 use Rattle.calendar.proofs.Acceptance.{naught, end, by-day}
 
--- the answer where a serial is accepted, and where it is not
-pub taken : (is1904 : Bool) (x : Float) → accepted is1904 x ≡ true → answer is1904 x ≡ Ok (timeOf is1904 x)
-taken is1904 x h = ap (λ (b : Bool). cond b (Ok (timeOf is1904 x)) (Err OutsideCalendar)) h
+-- what is not accepted is refused
+pub refused : (is1904 : Bool) (x : Float) → accepted is1904 x ≡ false → Err OutsideCalendar ≡ answer is1904 x
+refused is1904 x h = sym (ap (λ (b : Bool). cond b (Ok (timeOf is1904 x)) (Err OutsideCalendar)) h)
 
-pub refused : (is1904 : Bool) (x : Float) → accepted is1904 x ≡ false → answer is1904 x ≡ Err OutsideCalendar
-refused is1904 x h = ap (λ (b : Bool). cond b (Ok (timeOf is1904 x)) (Err OutsideCalendar)) h
+-- a time with the date of an accepted serial and the quotients and remainders of its milliseconds is its answer
+pub replied : (is1904 : Bool) (x : Float) (t : CivilTime) (count : ℕ) → accepted is1904 x ≡ true → count ≡ millisSinceStart x → t .date ≡ dateOf is1904 (dayOf x)
+    → t .hour ≡ count / 3600000 % 24 → t .minute ≡ count / 60000 % 60 → t .second ≡ count / 1000 % 60 → t .milli ≡ count % 1000 → Ok t ≡ answer is1904 x
+replied is1904 x t count h counted date hour minute second milli =
+    let fields : t ≡ record { date = dateOf is1904 (dayOf x); hour = count / 3600000 % 24; minute = count / 60000 % 60; second = count / 1000 % 60; milli = count % 1000 } =
+    λ i. record { date = date i; hour = hour i; minute = minute i; second = second i; milli = milli i } in
+    let whole = ap (λ (n : ℕ). record { date = dateOf is1904 (dayOf x); hour = n / 3600000 % 24; minute = n / 60000 % 60; second = n / 1000 % 60; milli = n % 1000 }) counted in
+    ap Ok (fields ∙ whole) ∙ sym (ap (λ (b : Bool). cond b (Ok (timeOf is1904 x)) (Err OutsideCalendar)) h)
 
 -- the comparison of the counted day with the last one, for a serial that is a number from 0 to the end
 module _ (is1904 : Bool) (x : Float) (count last : ℕ) (low : le naught x ≡ true) (high : le end x ≡ false) (counted : count ≡ millisSinceStart x) (last-is : last ≡ lastDay is1904) where

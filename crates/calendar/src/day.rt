@@ -5,17 +5,23 @@ ghost use Prim.Native.Nat.{ℕ, _+_, _-_, _*_, _/_, _<_, _≤_};
 ghost use Rattle.calendar.specs.Calendar.{leap, february, yearLength, monthLength, daysOfYears, daysOfMonths, startYear, startDays, lastDay, CountsTo};
 use crate::civil::Date;
 
-/// The years repeat their lengths every 400 years; from 1601 on, each century but the fourth and each four years but
-/// the last of a century have these many days.
+/// The Gregorian years repeat their lengths after these many days.
 const DAYS_IN_400_YEARS: u32 = 146_097;
 
+/// A century whose last year is no leap year; every fourth has a day more.
 const DAYS_IN_100_YEARS: u32 = 36_524;
 
+/// Four years, the last of them a leap year.
 const DAYS_IN_4_YEARS: u32 = 1_461;
 
 const DAYS_IN_YEAR: u32 = 365;
 
-/// The days of the 1900 system's own 1900, which are serial days 1 to 366.
+/// From 1601-01-01, where a cycle of 400 years begins, to 1901-01-01 and to 1904-01-01.
+const DAYS_BEFORE_1901: u32 = 109_572;
+
+const DAYS_BEFORE_1904: u32 = 110_667;
+
+/// The 1900 system counts its own 1900 as a leap year: serial days 1 to 366.
 const DAYS_IN_OWN_1900: u32 = 366;
 
 /// The last serial day of a system: 9999-12-31.
@@ -25,7 +31,7 @@ pub(crate) fn last_day(is_1904: bool) -> u32
     if is_1904 { 2_957_003 } else { 2_958_465 }
 }
 
-fn is_leap(is_1904: bool, year: u16) -> bool
+fn is_leap_year(is_1904: bool, year: u16) -> bool
     ensures { λ r. ⌜ r ≡ leap «is_1904» year ⌝ }
 {
     year % 400 == 0 || (year % 4 == 0 && year % 100 != 0) || (!is_1904 && year == 1900)
@@ -75,8 +81,7 @@ fn gregorian_year(since_1601: u32) -> YearDay
     }
 }
 
-/// The year of a serial day. 1904-01-01 is day 110,667 from 1601-01-01; in the 1900 system the 366 days of its own 1900
-/// stand apart, and day 367 is 1901-01-01, day 109,572 from 1601-01-01.
+/// The year of a serial day. Only 1899-12-31 and the 1900 system's own 1900 are not by the Gregorian count.
 fn year_of(is_1904: bool, serial_day: u32) -> YearDay
     requires { ⌜ «serial_day» ≤ lastDay «is_1904» ⌝ }
     ensures counts { λ r. ⌜ daysOfYears «is_1904» (startYear «is_1904») (r .year - startYear «is_1904») + r .day ≡ «serial_day» + startDays «is_1904» ⌝ }
@@ -84,7 +89,7 @@ fn year_of(is_1904: bool, serial_day: u32) -> YearDay
     ensures low { λ r. ⌜ startYear «is_1904» ≤ r .year ⌝ }
 {
     if is_1904 {
-        gregorian_year(serial_day + 110_667)
+        gregorian_year(serial_day + DAYS_BEFORE_1904)
     } else if serial_day == 0 {
         YearDay {
             year: 1899,
@@ -96,7 +101,7 @@ fn year_of(is_1904: bool, serial_day: u32) -> YearDay
             day: (serial_day - 1) as u16,
         }
     } else {
-        gregorian_year(serial_day + 109_205)
+        gregorian_year(serial_day - 1 - DAYS_IN_OWN_1900 + DAYS_BEFORE_1901)
     }
 }
 
@@ -132,7 +137,7 @@ pub(crate) fn date_of(is_1904: bool, serial_day: u32) -> Date
     ensures { λ r. ⌜ CountsTo «is_1904» r «serial_day» ⌝ }
 {
     let at = year_of(is_1904, serial_day);
-    let within = month_of(is_leap(is_1904, at.year), at.day);
+    let within = month_of(is_leap_year(is_1904, at.year), at.day);
     Date {
         year: at.year,
         month: within.month,

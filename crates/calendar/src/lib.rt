@@ -1,4 +1,5 @@
-// Serial dates of spreadsheets: days counted from 1899-12-31 or from 1904-01-01, with the time as a fraction of a day.
+// Serial dates of spreadsheets: a number of days since day 0, with the time of day as its fraction.
+// In the 1900 system day 0 is 1899-12-31, and 1900 is taken for a leap year; in the 1904 system day 0 is 1904-01-01.
 ghost use mathlib.Core.Path.{_≡_};
 ghost use Rattle.std.specs.declared.result.Result.{Result};
 ghost use Rattle.calendar.specs.Serial.{answer, Says};
@@ -24,7 +25,8 @@ const MILLIS_IN_MINUTE: u64 = 60_000;
 
 const MILLIS_IN_SECOND: u64 = 1_000;
 
-/// The date and the time of a serial, in the 1904 system or in the 1900 system, whose 1900 is a leap year.
+/// The date and the time of a serial, to the nearest millisecond. A serial that is below 0, not a number, or so near the
+/// end of 9999-12-31 or past it that it rounds to a later day, is refused.
 pub fn to_ymd_hms_milli(serial: f64, is_1904: bool) -> Result<CivilTime, DateFault>
     ensures value { λ r. ⌜ r ≡ answer «is_1904» serial ⌝ }
     ensures says { λ r. ⌜ Says «is_1904» serial r ⌝ }

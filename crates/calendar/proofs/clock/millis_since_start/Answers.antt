@@ -1,7 +1,6 @@
-use mathlib.Core.Path.{_≡_, ap, _∙_}
+use mathlib.Core.Path.{_≡_}
 use native.Mathlib.Omega.{arith}
-use lib.Ieee.{Float}
-use Rattle.calendar.specs.Clock.{wholePart, fractionTimes, halfUp, seconds, millis}
+use Rattle.calendar.specs.Clock.{wholePart, halfUp, seconds, millis}
 use Rattle.calendar.proofs.Fractions.{half-bound}
 use Rattle.calendar.proofs.clock.millis_since_start.Needs as need
 
@@ -12,7 +11,7 @@ pub returns : need.returns
 returns c =
     let day = c .whole-part-day .ensures .value in
     let product = c .fraction-times-seconds .ensures .value in
-    let second = c .whole-part-second .ensures .value ∙ ap wholePart product in
-    let rest = c .fraction-times .ensures .value ∙ ap (λ (y : Float). fractionTimes y 1000) product in
-    let milli = c .half-up-milli .ensures ∙ ap halfUp rest in
+    let second : c .whole-part-second .result ≡ wholePart (seconds (c .args .serial)) = (cc) in
+    let rest : c .fraction-times .result ≡ millis (c .args .serial) = (cc) in
+    let milli : c .half-up-milli .result ≡ halfUp (millis (c .args .serial)) = (cc) in
     omega arith
