@@ -1,7 +1,7 @@
 -- Which serials are accepted, by the comparisons that the program makes.
 use mathlib.Core.Path.{_≡_, refl, sym, ap, _∙_, subst}
 use mathlib.Core.Bool.{Bool, true, false, not, _&&_, _||_, true≢false}
-use Prim.Native.Nat.{ℕ, zero, suc, _+_, _*_, _/_, _^_, _≤_, _<_}
+use Prim.Native.Nat.{ℕ, zero, suc, _*_, _/_, _^_, _≤_, _<_}
 use native.Mathlib.Nat.{zero-mul, mul-one, mul-pos, zero-lt-suc, le-div-iff-mul-le}
 use native.Mathlib.Omega.{arith}
 use lib.Dec.{eqb, leb}
@@ -54,6 +54,7 @@ end-minus : (m : ℕ) (e : ℤ) → le end (fin true m e) ≡ false
 unfolding le ofBits
 end-minus m e = let p = down-pos e in grind (arith, tells)
 
+-- no system reaches further than the 1900 one
 last-le : (is1904 : Bool) → lastDay is1904 ≤ 2958465
 last-le true = omega arith
 last-le false = omega arith

@@ -1,19 +1,14 @@
 -- Day by day from its start, a system's dates count to their days.
-use mathlib.Core.Path.{_≡_, refl, sym, ap, _∙_, subst}
+use mathlib.Core.Path.{_≡_, refl, sym, ap, _∙_}
 use mathlib.Core.Bool.{Bool, true, false, cond}
 use Prim.Native.Nat.{ℕ, zero, suc, _+_, _-_, _<_, _≤_}
 use native.Mathlib.Omega.{arith}
 use lib.Dec.{ltb, lit≤}
 use Rattle.std.proofs.shelf.Tests.{ltb-true, ltb-false}
-use Rattle.std.proofs.shelf.Ways.{tells}
 use Rattle.calendar.specs.declared.civil.Date.{Date}
-use Rattle.calendar.specs.Calendar.{leap, yearLength, monthLength, daysOfYears, daysOfMonths, startYear, startDays, CountsTo, ymd, dayAfter, dateOf}
-use Rattle.calendar.proofs.Unique.{next, whole-year, one-date}
-
--- no month is empty
-some-day : (isLeap : Bool) (m : ℕ) → 1 ≤ monthLength isLeap m
-some-day true m = grind (arith, tells)
-some-day false m = grind (arith, tells)
+use Rattle.calendar.specs.Calendar.{leap, yearLength, monthLength, daysOfYears, startYear, CountsTo, ymd, dayAfter, dateOf}
+use Rattle.calendar.proofs.Months.{months-to, some-day, whole-year}
+use Rattle.calendar.proofs.Unique.{one-date}
 
 -- the three ways to the day after
 module _ (is1904 : Bool) (d : Date) (n : ℕ) (p : CountsTo is1904 d n) where
@@ -31,8 +26,7 @@ module _ (is1904 : Bool) (d : Date) (n : ℕ) (p : CountsTo is1904 d n) where
       let a = p .day-low in
       let b = p .day-high in
       let e = p .counts in
-      let s : suc m - 1 ≡ suc (m - 1) = omega arith in
-      let f : daysOfMonths isLeap (suc m - 1) ≡ daysOfMonths isLeap (m - 1) + monthLength isLeap m = ap (daysOfMonths isLeap) s ∙ next isLeap m low in
+      let f = months-to isLeap m (suc m - 1) low (omega arith) in
       record { month-low = omega arith; month-high = omega arith; day-low = lit≤ tt; day-high = some-day isLeap (suc m); year-low = p .year-low; counts = omega arith }
 
   next-year : monthLength (leap is1904 (d .year)) (d .month) ≤ d .day → 12 ≤ d .month → CountsTo is1904 (ymd (suc (d .year)) 1 1) (suc n)
@@ -50,8 +44,7 @@ module _ (is1904 : Bool) (d : Date) (n : ℕ) (p : CountsTo is1904 d n) where
       let s : suc y - Y ≡ suc (y - Y) = omega arith in
       let t : Y + (y - Y) ≡ y = omega arith in
       let years : daysOfYears is1904 Y (suc y - Y) ≡ daysOfYears is1904 Y (y - Y) + yearLength isLeap = ap (daysOfYears is1904 Y) s ∙ ap (λ (z : ℕ). daysOfYears is1904 Y (y - Y) + yearLength (leap is1904 z)) t in
-      let u : 12 ≡ suc (m - 1) = omega arith in
-      let months : yearLength isLeap ≡ daysOfMonths isLeap (m - 1) + monthLength isLeap m = sym (whole-year isLeap) ∙ ap (daysOfMonths isLeap) u ∙ next isLeap m low in
+      let months = sym (whole-year isLeap) ∙ months-to isLeap m 12 low (omega arith) in
       record { month-low = lit≤ tt; month-high = lit≤ tt; day-low = lit≤ tt; day-high = lit≤ tt; year-low = omega arith; counts = omega arith }
 
 -- the day after a date counts to the next serial day

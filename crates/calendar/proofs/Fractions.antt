@@ -1,26 +1,27 @@
 -- The whole part and the fraction of a float, each exact.
 use mathlib.Core.Path.{_≡_, refl, sym, ap, _∙_, subst}
 use mathlib.Core.Bool.{Bool, true, false, cond, true≢false, _&&_}
-use mathlib.Core.Logic.{_⊎_, inl, inr}
-use Prim.Native.Nat.{ℕ, zero, suc, _+_, _-_, _*_, _/_, _%_, _^_, _≤_, _<_, min}
-use native.Mathlib.Nat.{le-trans, le-of-eq, lt-of-lt-of-le, lt-of-le-of-lt, le-of-lt, not-le-of-lt, mod-lt, mod-le, div-add-mod', mul-pos, mul-one, mul-comm, mul-assoc, mul-left-comm, mul-right-comm, mul-le-mul-right, mul-le-mul-left, mul-lt-mul-of-pos-right, lt-of-mul-lt-mul-right, div-lt-iff-lt-mul, add-mul, zero-lt-suc, mul-mul-mul-comm}
+use mathlib.Core.Logic.{inl, inr}
+use Prim.Native.Nat.{ℕ, zero, suc, _+_, _-_, _*_, _/_, _%_, _^_, _≤_, _<_}
+use native.Mathlib.Nat.{le-trans, le-of-eq, lt-of-lt-of-le, lt-of-le-of-lt, le-of-lt, not-le-of-lt, mod-lt, mod-le, div-add-mod', mul-pos, mul-one, mul-comm, mul-assoc, mul-right-comm, mul-le-mul-right, mul-lt-mul-of-pos-right, div-lt-iff-lt-mul, add-mul, zero-lt-suc, mul-mul-mul-comm}
 use native.Mathlib.Omega.{arith}
 use Rattle.std.proofs.shelf.Tests.{cases-lt}
 use Rattle.std.specs.Floats as Floats
 use Rattle.std.specs.Floats.{wholeBy}
-use lib.Dec.{le→leb, eqb→eq, T, ltb, leb, eqb, ltb→lt, leb→le, lit≤, lit<}
+use lib.Dec.{le→leb, eqb→eq, T, ltb, leb, eqb, ltb→lt, leb→le, lit≤}
 use lib.IntN.{ℤ, pos, negsuc}
 use lib.Pow.{pow-add, pow-pos, pow-mono, pow-lt}
-use lib.Ieee.{Float, nan, inf, fin, Format, binary64, prec, low, emax, up, down, round, mul, sub, sum, ofInt, toUnsigned, fits, inFloat}
+use lib.Ieee.{Float, nan, inf, fin, Format, binary64, up, down, round, mul, sub, sum, ofInt, toUnsigned, fits, inFloat}
 use lib.Ieee.Fits.{down-pos, and-l, and-r}
 use lib.Ieee.Exact.{HasValue, round-exact}
 use lib.Ieee.Scale.{round-same}
 use lib.Ieee.Back.{round-whole, unsigned-back}
-use lib.Ieee.Positive.{num, den, den-pos, value→cross}
+use lib.Ieee.Positive.{num, den, den-pos}
 use Rattle.calendar.specs.Clock.{Under, wholePart, fractionTimes, halfUp}
 use Rattle.calendar.proofs.Rounding.{round-at-most}
 
-pub whole-value : (n : ℕ) → n ≤ 2 ^ 53 → HasValue (ofInt binary64 (pos n)) false n 1
+-- a whole number of at most 2 ^ 53 is a float
+whole-value : (n : ℕ) → n ≤ 2 ^ 53 → HasValue (ofInt binary64 (pos n)) false n 1
 unfolding ofInt
 whole-value n h = round-whole binary64 false n h
 
@@ -32,11 +33,12 @@ whole-part (inf s) r u e = absurd (u .0)
 whole-part (fin true m d) r u e = absurd (true≢false (u .0 .0))
 whole-part (fin false m d) r u e = let l : m * up d / down d < 2 ^ 32 = div-lt-iff-lt-mul (down-pos d) .1 (u .1) in omega arith
 
+-- which is small where the float is
 pub whole-bound : (x : Float) (r : ℕ) → Under x (2 ^ 32) → r ≡ toUnsigned 64 x → r < 2 ^ 32
 whole-bound x r u e = subst (λ (n : ℕ). n < 2 ^ 32) (sym (whole-part x r u e)) (div-lt-iff-lt-mul (den-pos x) .1 (u .1))
 
--- ---- a product of two values that are not negative, by the fractions that they equal
-pub times : (f : Format) (x y : Float) (a c b d : ℕ) → 0 < c → 0 < d → HasValue x false a c → HasValue y false b d → mul f x y ≡ round f false (a * b) (c * d)
+-- a product of two values that are not negative, by the fractions that they equal
+times : (f : Format) (x y : Float) (a c b d : ℕ) → 0 < c → 0 < d → HasValue x false a c → HasValue y false b d → mul f x y ≡ round f false (a * b) (c * d)
 unfolding mul
 times f nan y a c b d C D h k = absurd h
 times f (inf s) y a c b d C D h k = absurd h
@@ -48,7 +50,7 @@ times f (fin false m e) (fin false n g) a c b d C D h k =
     round-same f false (m * up e * (n * up g)) (down e * down g) (a * b) (c * d) (mul-pos (down-pos e) (down-pos g)) (mul-pos C D)
     (mul-mul-mul-comm (m * up e) (n * up g) c d ∙ ap (λ (z : ℕ). z * (n * up g * d)) (h .1) ∙ ap (λ (z : ℕ). a * down e * z) (k .1) ∙ mul-mul-mul-comm a (down e) b (down g))
 
--- ---- the difference of a value and one that is no larger
+-- a difference whose second part is no larger is not negative
 pick : (f : Format) (a b c : ℕ) → b ≤ a → sum f false a true b c ≡ round f false (a - b) c
 unfolding sum
 pick f a b c h = go (ltb a b) (ltb→lt a b)
@@ -57,10 +59,12 @@ pick f a b c h = go (ltb a b) (ltb→lt a b)
     go true k = absurd (not-le-of-lt (k tt) h)
     go false k = refl
 
+-- a difference of two values over their common denominator
 opened : (f : Format) (m : ℕ) (e : ℤ) (n : ℕ) (d : ℤ) → sub f (fin false m e) (fin false n d) ≡ sum f false (m * up e * down d) true (n * up d * down e) (down e * down d)
 unfolding sub
 opened f m e n d = refl
 
+-- taking the quotient n off A / D leaves the remainder, over the denominator D * g
 rest : (A g N n D : ℕ) → N * 1 ≡ n * g → n ≡ A / D → (N * D ≤ A * g) × (A * g - N * D ≡ A % D * g)
 rest A g N n D h e =
     let x : N ≡ n * g = sym (mul-one N) ∙ h in
@@ -69,7 +73,8 @@ rest A g N n D h e =
     let z : A * g ≡ n * D * g + A % D * g = ap (λ (z : ℕ). z * g) (sym d) ∙ add-mul (n * D) (A % D) g in
     omega arith
 
-pub less-whole : (x y : Float) (n : ℕ) → HasValue x false (num x) (den x) → HasValue y false n 1 → n ≡ wholePart x → sub binary64 x y ≡ round binary64 false (num x % den x) (den x)
+-- a value less its whole part is its fraction, rounded
+less-whole : (x y : Float) (n : ℕ) → HasValue x false (num x) (den x) → HasValue y false n 1 → n ≡ wholePart x → sub binary64 x y ≡ round binary64 false (num x % den x) (den x)
 less-whole nan y n h k e = absurd h
 less-whole (inf s) y n h k e = absurd h
 less-whole (fin s m d) nan n h k e = absurd k
@@ -85,10 +90,11 @@ less-whole (fin false m d) (fin false p g) n h k e =
     ∙ round-same binary64 false (A % down d * down g) (down d * down g) (A % down d) (down d) (mul-pos (down-pos d) (down-pos g)) (down-pos d)
     (mul-assoc (A % down d) (down g) (down d) ∙ ap (λ (z : ℕ). A % down d * z) (mul-comm (down g) (down d)))
 
--- ---- the fraction of a value that the format holds is one that it holds
+-- powers of two are in the order of their exponents
 shallow : (k : ℕ) → 2 ^ k ≤ 2 ^ 1074 → k ≤ 1074
 shallow k h = elim (cases-lt 1074 k) [ inl l ↦ absurd (not-le-of-lt (pow-lt l) h) | inr g ↦ g ]
 
+-- what a float below 1 in its last place has: a short significand, and an exponent that is not too deep
 deep : (m k : ℕ) → T (fits binary64 (fin false m (negsuc k))) → (m < 2 ^ 53) × (suc k ≤ 1074)
 unfolding fits
 deep zero k t = let e : 1 * 2 ^ suc k ≡ 1 = eqb→eq _ _ t in let z : ⊥ = omega (arith, pow-lt {i = 0} {j = suc k} (zero-lt-suc k)) in absurd z
@@ -99,10 +105,12 @@ deep (suc m) k t =
     let D = ltb (suc m * 1) (2 ^ 1024 * 2 ^ suc k) in
     (ltb→lt _ _ (and-r A B (and-l (A && B) C (and-l (A && B && C) D t))), shallow (suc k) (leb→le _ _ (and-r (A && B) C (and-l (A && B && C) D t))))
 
+-- a whole number has no fraction
 no-rest : (a : ℕ) → a % 1 ≡ 0
 no-rest a = omega arith
 
-pub fraction-held : (x : Float) → T (fits binary64 x) → HasValue x false (num x) (den x) → HasValue (round binary64 false (num x % den x) (den x)) false (num x % den x) (den x)
+-- the fraction of a float is a float: rounding leaves it
+fraction-held : (x : Float) → T (fits binary64 x) → HasValue x false (num x) (den x) → HasValue (round binary64 false (num x % den x) (den x)) false (num x % den x) (den x)
 fraction-held nan t h = absurd h
 fraction-held (inf s) t h = absurd h
 fraction-held (fin true m e) t h = absurd (true≢false (h .0))
@@ -155,14 +163,16 @@ fraction-under x k K =
 pub fraction-by-under : (x y : Float) (k : ℕ) → T (fits binary64 x) → Under x (2 ^ 32) → k < 2 ^ 17 → y ≡ sub binary64 x (Floats.trunc binary64 x) → Under (mul binary64 y (ofInt binary64 (pos k))) (2 ^ 18)
 fraction-by-under x y k t u K e = subst (λ (z : Float). Under z (2 ^ 18)) (sym (fraction-by x y k t u (le-trans (le-of-lt K) (lit≤ tt)) e)) (fraction-under x k K)
 
--- ---- to the nearest, halves up
+-- a whole number below 2 ^ 53 comes back from its float
 half-back : (n : ℕ) → n < 2 ^ 53 → toUnsigned 64 (round binary64 false n 1) ≡ n
 unfolding ofInt inFloat
 half-back n h = unsigned-back binary64 64 n (le→leb n (2 ^ 53) (le-of-lt h)) (lt-of-lt-of-le h (lit≤ tt)) .1
 
+-- a fraction below 2 ^ 32 rounds to less than 2 ^ 53
 half-small : (a d : ℕ) → 0 < d → a < 4294967296 * d → (2 * a + d) / (2 * d) < 2 ^ 53
 half-small a d D h = div-lt-iff-lt-mul {y = 2 ^ 53} (mul-pos (zero-lt-suc 1) D) .1 (omega arith)
 
+-- a cast of the nearest whole float gives the nearest whole number, halves up
 pub half-part : (x y : Float) (r : ℕ) → Under x (2 ^ 32) → y ≡ wholeBy Floats.halfUp Floats.halfUp binary64 x → r ≡ toUnsigned 64 y → r ≡ halfUp x
 unfolding wholeBy
 half-part nan y r u e h = absurd (u .0)
@@ -170,5 +180,6 @@ half-part (inf s) y r u e h = absurd (u .0)
 half-part (fin true m d) y r u e h = absurd (true≢false (u .0 .0))
 half-part (fin false m d) y r u e h = h ∙ ap (toUnsigned 64) e ∙ half-back ((2 * (m * up d) + down d) / (2 * down d)) (half-small (m * up d) (down d) (down-pos d) (u .1))
 
+-- which is small where the float is
 pub half-bound : (x : Float) → Under x (2 ^ 18) → halfUp x < 2 ^ 53
 half-bound x u = half-small (num x) (den x) (den-pos x) (omega (arith, den-pos x))

@@ -1,4 +1,5 @@
 mod Years
+mod Months
 pub mod Unique
 pub mod Days
 mod Rounding

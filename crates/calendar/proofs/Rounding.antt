@@ -1,11 +1,11 @@
 -- Rounding does not pass a whole number that the format holds.
 use mathlib.Core.Path.{_≡_, refl, sym, ap, _∙_}
 use mathlib.Core.Bool.{Bool, true, false, true≢false, _&&_, _||_}
-use Prim.Native.Nat.{ℕ, zero, suc, _+_, _*_, _^_, _≤_, _<_}
-use native.Mathlib.Nat.{le-trans, le-of-eq, le-refl, le-of-lt, zero-mul, mul-one, mul-comm, mul-assoc, mul-right-comm, mul-le-mul-right, le-of-mul-le-mul-right, zero-lt-suc}
+use Prim.Native.Nat.{ℕ, _*_, _^_, _≤_, _<_}
+use native.Mathlib.Nat.{le-trans, le-of-eq, le-of-lt, zero-mul, mul-one, mul-right-comm, le-of-mul-le-mul-right, zero-lt-suc}
 use native.Mathlib.Omega.{arith}
 use lib.Dec.{T, eqb, ltb, ltb→lt, eqb→eq, lit≤}
-use lib.Ieee.{Float, nan, inf, fin, binary64, up, down, le, lt, eq, round}
+use lib.Ieee.{Float, nan, inf, fin, binary64, up, down, le, round}
 use lib.Ieee.Back.{round-whole}
 use lib.Ieee.Exact.{HasValue}
 use lib.Ieee.Fits.{and-l}
@@ -26,6 +26,7 @@ finite-between (fin false m e) (inf false) (inf t) a b v w h k = absurd w
 finite-between (fin false m e) (inf false) (fin t n d) a b v w h k = absurd k
 finite-between (fin false m e) (fin s n d) hi a b v w h k = tt
 
+-- the test for at most, as two tests
 lt-or-eq : (p q : ℕ) → T (ltb p q || (eqb p q && true)) → p ≤ q
 lt-or-eq p q = go (ltb p q) (ltb→lt p q)
   where

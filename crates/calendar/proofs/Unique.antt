@@ -1,12 +1,13 @@
 -- A serial day has one date.
-use mathlib.Core.Path.{_≡_, refl, sym, ap, _∙_, subst}
+use mathlib.Core.Path.{_≡_, sym, ap, _∙_, subst}
 use mathlib.Core.Logic.{inl, inr}
-use mathlib.Core.Bool.{Bool, true, false}
+use mathlib.Core.Bool.{Bool}
 use Prim.Native.Nat.{ℕ, zero, suc, _+_, _-_, _<_, _≤_}
 use native.Mathlib.Nat.{le-refl, le-trans, add-suc}
 use native.Mathlib.Omega.{arith}
 use Rattle.std.proofs.shelf.Tests.{cases-order}
 use Rattle.calendar.specs.declared.civil.Date.{Date}
+use Rattle.calendar.proofs.Months.{months-to, month-grows, whole-year}
 use Rattle.calendar.specs.Calendar.{leap, yearLength, monthLength, daysOfYears, daysOfMonths, startYear, startDays, CountsTo, OnlyDate}
 
 -- a place in a sum of parts, where f k is the sum of the first k: which part it lies in
@@ -24,26 +25,14 @@ module _ (f : ℕ → ℕ) (grows : (k : ℕ) → f k ≤ f (suc k)) where
     | inr o ↦ elim o [ inl l ↦ let z : ⊥ = omega (arith, before i j l) in absurd z | inr l ↦ let z : ⊥ = omega (arith, before j i l) in absurd z ]
   ]
 
+-- more years have no fewer days
 year-grows : (is1904 : Bool) (y k : ℕ) → daysOfYears is1904 y k ≤ daysOfYears is1904 y (suc k)
 year-grows is1904 y k = omega arith
-
-month-grows : (isLeap : Bool) (k : ℕ) → daysOfMonths isLeap k ≤ daysOfMonths isLeap (suc k)
-month-grows isLeap k = omega arith
-
--- the twelve months make up the year
-pub whole-year : (isLeap : Bool) → daysOfMonths isLeap 12 ≡ yearLength isLeap
-whole-year true = refl
-whole-year false = refl
-
--- the days up to the end of month m
-pub next : (isLeap : Bool) (m : ℕ) → 1 ≤ m → daysOfMonths isLeap (suc (m - 1)) ≡ daysOfMonths isLeap (m - 1) + monthLength isLeap m
-next isLeap zero h = let z : ⊥ = omega arith in absurd z
-next isLeap (suc k) h = let b : suc k - 1 ≡ k = omega arith in ap (λ (z : ℕ). daysOfMonths isLeap (suc z)) b ∙ sym (ap (λ (z : ℕ). daysOfMonths isLeap z + monthLength isLeap (suc k)) b)
 
 -- a day of month m lies before the month's end, and so before the year's
 inside : (isLeap : Bool) (m d : ℕ) → 1 ≤ m → m ≤ 12 → 1 ≤ d → d ≤ monthLength isLeap m → (daysOfMonths isLeap (m - 1) + (d - 1) < daysOfMonths isLeap (suc (m - 1))) × (daysOfMonths isLeap (m - 1) + (d - 1) < yearLength isLeap)
 inside isLeap m d a b c e =
-    let n = next isLeap m a in
+    let n = months-to isLeap m (suc (m - 1)) a (omega arith) in
     let t : suc (m - 1) + (12 - suc (m - 1)) ≡ 12 = omega arith in
     let r : daysOfMonths isLeap (suc (m - 1)) ≤ daysOfMonths isLeap 12 = subst (λ (z : ℕ). daysOfMonths isLeap (suc (m - 1)) ≤ daysOfMonths isLeap z) t (mono (daysOfMonths isLeap) (month-grows isLeap) (suc (m - 1)) (12 - suc (m - 1))) in
     omega (arith, whole-year isLeap)

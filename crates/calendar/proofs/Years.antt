@@ -1,12 +1,12 @@
 -- The days of a run of years in closed form.
-use mathlib.Core.Path.{_≡_, refl, sym, ap, _∙_, subst}
-use mathlib.Core.Bool.{Bool, true, false, cond, not, _&&_, _||_}
-use Prim.Native.Nat.{ℕ, zero, suc, _+_, _-_, _*_, _/_, _%_, _<_, _≤_}
+use mathlib.Core.Path.{_≡_, sym, ap, _∙_, subst}
+use mathlib.Core.Bool.{Bool, true, false, cond, not, _&&_}
+use Prim.Native.Nat.{ℕ, zero, suc, _+_, _-_, _*_, _/_, _<_, _≤_}
 use native.Mathlib.Nat.{add-suc, zero-add, add-zero, add-right-comm}
 use native.Mathlib.Omega.{arith}
-use lib.Dec.{eqb, ltb, lit≤}
+use lib.Dec.{ltb, lit≤}
 use Rattle.std.proofs.shelf.Ways.{tells}
-use Rattle.calendar.specs.Calendar.{leap, yearLength, daysOfYears, startYear, daysOfMonths, monthLength}
+use Rattle.calendar.specs.Calendar.{leap, yearLength, daysOfYears, startYear}
 
 -- the days from 1601-01-01 to the start of a year, by the Gregorian rule
 abbrev pub civil : ℕ → ℕ
@@ -39,18 +39,11 @@ since-start : (is1904 : Bool) (r : ℕ) → startYear is1904 ≤ r → daysOfYea
 since-start true r h = years-from true 1904 (r - 1904) (lit≤ tt) ∙ ap (λ (x : ℕ). civil x + extra true x) (back 1904 r h)
 since-start false r h = years-from false 1899 (r - 1899) (lit≤ tt) ∙ ap (λ (x : ℕ). civil x + extra false x) (back 1899 r h)
 
--- one more month
-pub months-next : (isLeap : Bool) (m : ℕ) → 1 ≤ m → daysOfMonths isLeap (m + 1 - 1) ≡ daysOfMonths isLeap (m - 1) + monthLength isLeap m
-months-next isLeap zero h = let z : ⊥ = omega arith in absurd z
-months-next isLeap (suc k) h =
-    let a : suc k + 1 - 1 ≡ suc k = omega arith in
-    let b : suc k - 1 ≡ k = omega arith in
-    ap (daysOfMonths isLeap) a ∙ sym (ap (λ (x : ℕ). daysOfMonths isLeap x + monthLength isLeap (suc k)) b)
-
--- past day 366 of the 1900 system the year is 1901 or later, a leap year by the Gregorian rule alone
+-- past day 366 of the 1900 system the year is 1901 or later
 late : (y d n : ℕ) → 1601 ≤ y → civil y + d ≡ n + 109205 → d < yearLength (leap true y) → 366 < n → 1901 ≤ y
 late y d n h e l g = grind (arith, tells)
 
+-- from 1901 on the Gregorian rule alone tells leap years, and the one day more is counted
 late-leap : (y : ℕ) → 1901 ≤ y → leap false y ≡ leap true y
 late-leap y h = grind (arith, tells)
 

@@ -2,7 +2,7 @@
 -- A serial day belongs to the 1900 system, or to the 1904 system where `is1904` is true.
 use mathlib.Core.Path.{_≡_}
 use mathlib.Core.Bool.{Bool, true, false, cond, not, _&&_, _||_}
-use Prim.Native.Nat.{ℕ, zero, suc, _+_, _-_, _*_, _/_, _%_, _<_, _≤_}
+use Prim.Native.Nat.{ℕ, zero, suc, _+_, _-_, _%_, _≤_}
 use lib.Dec.{eqb, ltb}
 use Rattle.calendar.specs.declared.civil.Date.{Date}
 
@@ -58,6 +58,7 @@ pub record CountsTo (is1904 : Bool) (date : Date) (day : ℕ) : Type 0 where
 abbrev pub OnlyDate : Bool → Date → ℕ → Type 0
 OnlyDate is1904 date day = (other : Date) → CountsTo is1904 other day → other ≡ date
 
+-- a date by its parts
 abbrev pub ymd : ℕ → ℕ → ℕ → Date
 ymd y m d = record { year = y; month = m; day = d }
 

@@ -1,6 +1,5 @@
 -- The time of day in a serial, in exact terms. A float that is not negative is the fraction num / den.
-use mathlib.Core.Path.{_≡_}
-use mathlib.Core.Bool.{Bool, true, false}
+use mathlib.Core.Bool.{false}
 use Prim.Native.Nat.{ℕ, _+_, _*_, _/_, _%_, _<_}
 use lib.Ieee.{Float, round, binary64}
 use lib.Ieee.Exact.{HasValue}
@@ -10,6 +9,7 @@ use lib.Ieee.Positive.{num, den}
 abbrev pub Under : Float → ℕ → Type 0
 Under x bound = HasValue x false (num x) (den x) × (num x < bound * den x)
 
+-- x without its fraction
 abbrev pub wholePart : Float → ℕ
 wholePart x = num x / den x
 

@@ -1,7 +1,7 @@
-use mathlib.Core.Path.{_≡_, refl, ap, _∙_}
+use mathlib.Core.Path.{_≡_, refl, _∙_}
 use mathlib.Core.Bool.{false}
 use native.Mathlib.Omega.{arith}
-use Prim.Native.Nat.{ℕ, _/_}
+use Prim.Native.Nat.{_/_}
 use Rattle.calendar.specs.Serial.{accepted, dayOf}
 use Rattle.calendar.proofs.Acceptance.{below-zero, past-end, under, same-millis}
 use Rattle.calendar.proofs.Days.{date-is}

@@ -3,8 +3,7 @@ use mathlib.Core.Path.{sym, subst}
 use native.Mathlib.Omega.{arith}
 use Prim.Native.Nat.{_≤_, _^_}
 use lib.Dec.{T}
-use lib.Ieee.{Float, binary64, fits}
-use Rattle.calendar.specs.Clock.{Under}
+use lib.Ieee.{binary64, fits}
 use Rattle.calendar.proofs.Fractions.{fraction-by, fraction-by-under}
 use Rattle.calendar.proofs.clock.fraction_times.Needs as need
 
