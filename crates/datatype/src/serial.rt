@@ -1,6 +1,10 @@
 // What a serial date tells of itself.
 ghost use mathlib.Core.Path.{_≡_};
+ghost use Rattle.calendar.specs.Serial.{answer, Says};
 ghost use Rattle.datatype.specs.Serials.{«serial-of», «is-duration», «is-datetime», Holds};
+use calendar::civil::CivilTime;
+use calendar::civil::DateFault;
+use calendar::to_ymd_hms_milli;
 use crate::excel_date_time::ExcelDateTime;
 use crate::excel_date_time::ExcelDateTimeType;
 use std::num::f64_from_bits_with_nan;
@@ -37,5 +41,14 @@ impl ExcelDateTime {
         ensures { λ r. ⌜ r ≡ «serial-of» (now (self .entry)) ⌝ }
     {
         f64_from_bits_with_nan(self.bits)
+    }
+
+    // The civil date and time of the serial, to the millisecond; refused outside its system's calendar.
+    // It does not ask whether the serial is a point or a length of time.
+    pub fn to_ymd_hms_milli(&self) -> Result<CivilTime, DateFault>
+        ensures value { λ r. ⌜ r ≡ answer (now (self .entry) .«is_1904») («serial-of» (now (self .entry))) ⌝ }
+        ensures says { λ r. ⌜ Says (now (self .entry) .«is_1904») («serial-of» (now (self .entry))) r ⌝ }
+    {
+        to_ymd_hms_milli(self.as_f64(), self.is_1904)
     }
 }
