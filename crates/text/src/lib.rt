@@ -1,0 +1,3 @@
+// Text as bytes: UTF-8, blank characters, trimming, and names that lie in one text.
+pub mod blank;
+pub mod utf8;
