@@ -17,7 +17,7 @@ use Rattle.std.proofs.shelf.Ways.{not-from-decides}
 use Rattle.std.proofs.shelf.Text.{utf8-append, utf8-encode, length-encode, width-bounds, boundary-from-take, utf8-drop, scalars-decodes, encodes-decodes}
 use Rattle.text.specs.Encoding.{NoCharacter, Begins, is-utf8}
 
-front : (xs ys : List ℕ) → take (length xs) (xs ++ ys) ≡ xs
+pub front : (xs ys : List ℕ) → take (length xs) (xs ++ ys) ≡ xs
 front xs ys = take-append-seam xs ys
 
 pub on : (bs : List ℕ) (i c n : ℕ) → i ≤ length bs → Begins (drop i bs) c n → (1 ≤ n) × (i + n ≤ length bs) × (Utf8 (take i bs) → Utf8 (take (i + n) bs))
