@@ -7,7 +7,12 @@ use Prim.Native.Nat.{ℕ, zero, suc, _+_, _-_, _<_, _≤_}
 use native.Mathlib.Omega.{arith}
 use lib.Dec.{leb}
 use lib.ListN.{length, getD, take, drop}
+use denote.Ref.{RefT}
+use Rattle.std.specs.declared.option.Option.{Option}
+use Rattle.std.specs.declared.option.Option.the-variants.{Some, None}
+use Rattle.std.specs.Options.{Cases}
 use Rattle.std.specs.Orderings.{Decides, When}
+use Rattle.std.specs.Slices.{found}
 use Rattle.std.specs.Text.{Utf8}
 use Rattle.std.proofs.shelf.Lists.{at-drop-more, at-drop-all}
 use Rattle.std.proofs.shelf.Tests.{le-leb, lt-leb, leb-true, and-parts, and-from, and-left, and-right, cases-bool}
@@ -40,6 +45,22 @@ name-start-first ends k e = ap (λ (j : ℕ). getD (0 ∷ ends) j 0) e
 pub name-start-later : (ends : List ℕ) (k : ℕ) → (k ≡ 0 → ⊥) → name-start ends k ≡ getD ends (k - 1) 0
 name-start-later ends zero n = absurd (n refl)
 name-start-later ends (suc k) n = ap (λ (j : ℕ). getD ends j 0) (omega arith)
+
+-- ---- one name, from what the bytes between its start and its end are
+module _ (text ends : List ℕ) (k start : ℕ) where
+  pub name-lies : k < length ends → start ≡ name-start ends k → (r : Option (RefT (List ℕ)))
+      → Cases r ((start ≤ name-end ends k) × (name-end ends k ≤ length text) → ⊥) (λ _. (start ≤ name-end ends k) × (name-end ends k ≤ length text))
+      → Cases r (Lies text ends k → ⊥) (λ _. Lies text ends k)
+  name-lies h e None n = λ l. n (omega arith, l .2)
+  name-lies h e (Some x) l = (h, omega arith, l .1)
+
+  pub name-bytes : start ≡ name-start ends k → (r : Option (RefT (List ℕ))) → found r (λ x. x .now ≡ slice text start (name-end ends k)) → found r (λ x. x .now ≡ slice text (name-start ends k) (name-end ends k))
+  name-bytes e None f = tt
+  name-bytes e (Some x) f = f ∙ ap (λ (j : ℕ). slice text j (name-end ends k)) e
+
+pub name-listed : (text ends : List ℕ) (k : ℕ) → k < length ends → (r : Option (RefT (List ℕ))) → found r (λ x. x .now ≡ slice text (name-start ends k) (name-end ends k)) → found r (λ x. x .now ≡ getD (names-of text ends) k [])
+name-listed text ends k h None f = tt
+name-listed text ends k h (Some x) f = f ∙ sym (names-get text ends k h)
 
 -- ---- soundness: the test and the words
 
@@ -95,3 +116,12 @@ module _ (text ends : List ℕ) (start k : ℕ) (lt : k < length ends) where
         | inl e ↦ absurd (n (fine-from text start (getD ends k 0) (and-parts (leb start (getD ends k 0) && (leb (getD ends k 0) (length text) && is-utf8 (slice text start (getD ends k 0)))) (sound-from (getD ends k 0) text (drop (k + 1) ends)) (sym sound-split ∙ e) .0)))
         | inr e ↦ e
       ]
+
+-- ---- laws for callers
+
+-- of sound names each lies in the text, and is UTF-8
+pub sound-lies : (text ends : List ℕ) (k : ℕ) → sound-names text ends ≡ true → k < length ends → Lies text ends k
+sound-lies text ends k s h = sound-decides text ends .0 s k h .0
+
+pub sound-utf8 : (text ends : List ℕ) (k : ℕ) → sound-names text ends ≡ true → k < length ends → Utf8 (getD (names-of text ends) k [])
+sound-utf8 text ends k s h = subst Utf8 (sym (names-get text ends k h)) (sound-decides text ends .0 s k h .1)

@@ -16,8 +16,8 @@ use Rattle.std.proofs.shelf.Tests.{cases-bool, cond-true, cond-false, and-parts
 use Rattle.std.proofs.shelf.Text.{encodes-append, encodes-same, cons-from-encodes, boundary-at-seam, utf8-take, utf8-encode, decodes-from-encodes, encodes-decodes, scalars-decodes, utf8-append}
 use Rattle.text.specs.Encoding.{is-utf8}
 use Rattle.text.specs.WhiteSpace.{blank}
-use Rattle.text.specs.Trimming.{from-dark, stripped, trimmed, trimmed-start, in-front, Blanks, Bare, Between, Trims, Leaves}
-use Rattle.text.proofs.Strips.{AllBlank, Dark, dark-front, from-dark-past, from-dark-none, from-dark-same, stripped-is, split}
+use Rattle.text.specs.Trimming.{past-blanks, stripped, trimmed, trimmed-start, in-front, Blanks, Bare, Between, Trims, Leaves}
+use Rattle.text.proofs.Strips.{AllBlank, NoBlankFirst, no-blank-first-front, past-blanks-join, past-blanks-none, past-blanks-same, stripped-is, split}
 use Rattle.text.proofs.Whole.{is-utf8-yes, is-utf8-no, utf8-cases}
 
 -- ---- lists of characters and their bytes
@@ -46,32 +46,32 @@ encodes-push cs c = encodes-append cs (c ∷ []) ∙ ap (λ (l : List ℕ). enco
 not-blank : (c : ℕ) → (blank c ≡ true → ⊥) → blank c ≡ false
 not-blank c n = elim (cases-bool (blank c)) [ inl e ↦ absurd (n e) | inr e ↦ e ]
 
-begins-dark : (rs : List ℕ) → scalars rs ≡ true → Bare (encodes rs) → Dark rs
-begins-dark [] s b = tt
-begins-dark (c ∷ cs) s b = not-blank c (λ e. b c (encodes cs) (and-parts (scalar c) (scalars cs) s .0) e .0 refl)
+begins-no-blank : (rs : List ℕ) → scalars rs ≡ true → Bare (encodes rs) → NoBlankFirst rs
+begins-no-blank [] s b = tt
+begins-no-blank (c ∷ cs) s b = not-blank c (λ e. b c (encodes cs) (and-parts (scalar c) (scalars cs) s .0) e .0 refl)
 
-ends-dark : (xs rs : List ℕ) → rs ≡ reverse xs → scalars rs ≡ true → Bare (encodes rs) → Dark xs
-ends-dark [] rs q s b = tt
-ends-dark (x ∷ xs) rs q s b =
+ends-no-blank : (xs rs : List ℕ) → rs ≡ reverse xs → scalars rs ≡ true → Bare (encodes rs) → NoBlankFirst xs
+ends-no-blank [] rs q s b = tt
+ends-no-blank (x ∷ xs) rs q s b =
     let w : rs ≡ reverse xs ++ x ∷ [] = q ∙ reverse-cons x xs in
     let sx = scalars-parts (reverse xs) (x ∷ []) (subst (λ (l : List ℕ). scalars l ≡ true) w s) .1 in
     not-blank x (λ e. b x (encodes (reverse xs)) (and-parts (scalar x) true sx .0) e .1 (ap encodes w ∙ encodes-push (reverse xs) x))
 
-pub bare-dark : (rs : List ℕ) → scalars rs ≡ true → Bare (encodes rs) → Dark rs × Dark (reverse rs)
-bare-dark rs s b = (begins-dark rs s b, ends-dark (reverse rs) rs (sym (reverse-reverse rs)) s b)
+pub bare-characters : (rs : List ℕ) → scalars rs ≡ true → Bare (encodes rs) → NoBlankFirst rs × NoBlankFirst (reverse rs)
+bare-characters rs s b = (begins-no-blank rs s b, ends-no-blank (reverse rs) rs (sym (reverse-reverse rs)) s b)
 
-dark-not : (c : ℕ) (cs rs : List ℕ) → rs ≡ c ∷ cs → Dark rs → blank c ≡ true → ⊥
-dark-not c cs rs q d e = both-ways (blank c) (subst Dark q d) e
+not-first : (c : ℕ) (cs rs : List ℕ) → rs ≡ c ∷ cs → NoBlankFirst rs → blank c ≡ true → ⊥
+not-first c cs rs q d e = both-ways (blank c) (subst NoBlankFirst q d) e
 
-pub dark-bare : (rs : List ℕ) → scalars rs ≡ true → Dark rs → Dark (reverse rs) → Bare (encodes rs)
-dark-bare rs s d e c rest sc bl =
-    ( (λ q. let r = cons-from-encodes rs rest c q in dark-not c (r .0) rs (r .1) d bl)
+pub characters-bare : (rs : List ℕ) → scalars rs ≡ true → NoBlankFirst rs → NoBlankFirst (reverse rs) → Bare (encodes rs)
+characters-bare rs s d e c rest sc bl =
+    ( (λ q. let r = cons-from-encodes rs rest c q in not-first c (r .0) rs (r .1) d bl)
     , (λ q.
         let u : Utf8 (encodes rs) = (rs, (s, refl)) in
         let k = boundary-at-seam (encodes rs) rest (encode c) q (utf8-encode c sc) in
         let t : Utf8 rest = subst Utf8 (ap (take (length rest)) q ∙ take-at rest (encode c) (length rest) refl) (utf8-take (encodes rs) (length rest) u k) in
         let w : rs ≡ t .0 ++ c ∷ [] = encodes-same rs (t .0 ++ c ∷ []) (q ∙ ap (λ (l : List ℕ). l ++ encode c) (sym (t .1 .1)) ∙ sym (encodes-push (t .0) c)) in
-        dark-not c (reverse (t .0)) (reverse rs) (ap reverse w ∙ reverse-append (t .0) (c ∷ [])) e bl) )
+        not-first c (reverse (t .0)) (reverse rs) (ap reverse w ∙ reverse-append (t .0) (c ∷ [])) e bl) )
 
 -- ---- the function and the relation
 
@@ -81,8 +81,8 @@ pub record Parted (bs fs ms gs : List ℕ) : Type 0 where
   pub is : encodes (fs ++ (ms ++ gs)) ≡ bs
   pub front : AllBlank fs
   pub back : AllBlank gs
-  pub begins : Dark ms
-  pub ends : Dark (reverse ms)
+  pub begins : NoBlankFirst ms
+  pub ends : NoBlankFirst (reverse ms)
 
 pub parted-utf8 : (bs fs ms gs : List ℕ) → Parted bs fs ms gs → Utf8 bs
 parted-utf8 bs fs ms gs p = (fs ++ (ms ++ gs), (p .all, p .is))
@@ -92,7 +92,7 @@ parted-trims bs fs ms gs p =
     let s = scalars-parts fs (ms ++ gs) (p .all) in
     let t = scalars-parts ms gs (s .1) in
     record {
-      text = λ _. (encodes fs, encodes gs, sym (p .is) ∙ encodes-three fs ms gs, (fs, s .0, refl, p .front), (ms, (t .0, refl)), (gs, t .1, refl, p .back), dark-bare ms (t .0) (p .begins) (p .ends));
+      text = λ _. (encodes fs, encodes gs, sym (p .is) ∙ encodes-three fs ms gs, (fs, s .0, refl, p .front), (ms, (t .0, refl)), (gs, t .1, refl, p .back), characters-bare ms (t .0) (p .begins) (p .ends));
       other = λ n. absurd (n (parted-utf8 bs fs ms gs p))
     }
 
@@ -108,7 +108,7 @@ parted-trimmed bs fs ms gs p =
 -- bytes as the relation has them, in characters
 pub between-parted : (bs front r back : List ℕ) → bs ≡ front ++ (r ++ back) → (F : Blanks front) → (R : Utf8 r) → (G : Blanks back) → Bare r → Parted bs (F .0) (R .0) (G .0)
 between-parted bs front r back q F R G b =
-    let d = bare-dark (R .0) (R .1 .0) (subst Bare (sym (R .1 .1)) b) in
+    let d = bare-characters (R .0) (R .1 .0) (subst Bare (sym (R .1 .1)) b) in
     record {
       all = scalars-join (F .0) (R .0 ++ G .0) (F .1) (scalars-join (R .0) (G .0) (R .1 .0) (G .1));
       is = encodes-three (F .0) (R .0) (G .0) ∙ (λ i. F .2 i ++ (R .1 .1 i ++ G .2 i)) ∙ sym q;
@@ -192,22 +192,22 @@ trimmed-ra = refl
 
 pub trimmed-start-other : (bs : List ℕ) → (Utf8 bs → ⊥) → trimmed-start bs ≡ 0
 unfolding trimmed-start
-trimmed-start-other bs n = cond-false (is-utf8 bs) (in-front (length bs) (from-dark (decodes bs))) 0 (is-utf8-no bs n)
+trimmed-start-other bs n = cond-false (is-utf8 bs) (in-front (length bs) (past-blanks (decodes bs))) 0 (is-utf8-no bs n)
 
 -- characters in front of the first that is not blank, in bytes
 pub parted-start : (bs fs ms gs : List ℕ) → Parted bs fs ms gs → (length ms ≡ 0 → trimmed-start bs ≡ 0) × (0 < length ms → trimmed-start bs ≡ length (encodes fs))
 unfolding trimmed-start
 parted-start bs fs ms gs p =
     let u = parted-utf8 bs fs ms gs p in
-    let e : trimmed-start bs ≡ in-front (length bs) (from-dark (ms ++ gs)) =
-        cond-true (is-utf8 bs) (in-front (length bs) (from-dark (decodes bs))) 0 (is-utf8-yes bs u)
-        ∙ ap (λ (l : List ℕ). in-front (length bs) (from-dark l)) (sym (decodes-from-encodes (fs ++ (ms ++ gs)) bs u (p .is)))
-        ∙ ap (in-front (length bs)) (from-dark-past fs (ms ++ gs) (p .front)) in
+    let e : trimmed-start bs ≡ in-front (length bs) (past-blanks (ms ++ gs)) =
+        cond-true (is-utf8 bs) (in-front (length bs) (past-blanks (decodes bs))) 0 (is-utf8-yes bs u)
+        ∙ ap (λ (l : List ℕ). in-front (length bs) (past-blanks l)) (sym (decodes-from-encodes (fs ++ (ms ++ gs)) bs u (p .is)))
+        ∙ ap (in-front (length bs)) (past-blanks-join fs (ms ++ gs) (p .front)) in
     by-middle ms e (p .begins) (p .is)
  where
-  by-middle : (xs : List ℕ) → trimmed-start bs ≡ in-front (length bs) (from-dark (xs ++ gs)) → Dark xs → encodes (fs ++ (xs ++ gs)) ≡ bs → (length xs ≡ 0 → trimmed-start bs ≡ 0) × (0 < length xs → trimmed-start bs ≡ length (encodes fs))
-  by-middle [] e d q = (λ _. e ∙ ap (in-front (length bs)) (from-dark-none gs (p .back)), λ h. absurd (omega arith))
+  by-middle : (xs : List ℕ) → trimmed-start bs ≡ in-front (length bs) (past-blanks (xs ++ gs)) → NoBlankFirst xs → encodes (fs ++ (xs ++ gs)) ≡ bs → (length xs ≡ 0 → trimmed-start bs ≡ 0) × (0 < length xs → trimmed-start bs ≡ length (encodes fs))
+  by-middle [] e d q = (λ _. e ∙ ap (in-front (length bs)) (past-blanks-none gs (p .back)), λ h. absurd (omega arith))
   by-middle (x ∷ xs) e d q =
       let all : length bs ≡ length (encodes fs) + length (encodes (x ∷ xs ++ gs)) = ap length (sym q ∙ encodes-append fs (x ∷ xs ++ gs)) ∙ length-append (encodes fs) (encodes (x ∷ xs ++ gs)) in
-      let f : trimmed-start bs ≡ length bs - length (encodes (x ∷ xs ++ gs)) = e ∙ ap (in-front (length bs)) (from-dark-same (x ∷ xs ++ gs) d) in
+      let f : trimmed-start bs ≡ length bs - length (encodes (x ∷ xs ++ gs)) = e ∙ ap (in-front (length bs)) (past-blanks-same (x ∷ xs ++ gs) d) in
       (λ h. absurd (omega arith), λ _. omega (arith, all, f))

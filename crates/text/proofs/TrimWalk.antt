@@ -16,8 +16,8 @@ use Rattle.std.proofs.shelf.Text.{encodes-append, length-le-encodes}
 use Rattle.text.specs.Encoding.{Begins, NoCharacter}
 use Rattle.text.specs.WhiteSpace.{blank}
 use Rattle.text.specs.Trimming.{trimmed, trimmed-start, Blanks, Trims, Leaves}
-use Rattle.text.proofs.Strips.{AllBlank, Dark}
-use Rattle.text.proofs.Whole.{front, stop, utf8-cases}
+use Rattle.text.proofs.Strips.{AllBlank, NoBlankFirst}
+use Rattle.text.proofs.Whole.{take-front, utf8-stops, utf8-cases}
 use Rattle.text.proofs.TrimLaws.{Parted, scalars-join, scalars-parts, encodes-push, encodes-three, parted-utf8, parted-trims, parted-start, trimmed-start-other, between-parted, trims-only}
 
 -- how far the walk has come: the characters up to `at` are blank ones, others from start to end, and blank ones; all are blank as long as end is 0
@@ -43,7 +43,7 @@ module _ (bs : List ℕ) (i c n : ℕ) (b : Begins (drop i bs) c n) where
   one-more : take (i + n) bs ≡ take i bs ++ encode c
   one-more =
       take-add i n bs
-      ∙ ap (λ (l : List ℕ). take i bs ++ l) (ap (take n) (b .2) ∙ ap (λ (k : ℕ). take k (encode c ++ drop n (drop i bs))) (b .1) ∙ front (encode c) (drop n (drop i bs)))
+      ∙ ap (λ (l : List ℕ). take i bs ++ l) (ap (take n) (b .2) ∙ ap (λ (k : ℕ). take k (encode c ++ drop n (drop i bs))) (b .1) ∙ take-front (encode c) (drop n (drop i bs)))
 
   inside : i ≤ length bs → i + n ≤ length bs
   inside h = omega (arith, b .1, ap length (b .2), length-append (encode c) (drop n (drop i bs)), length-drop i bs)
@@ -105,14 +105,14 @@ module _ (bs : List ℕ) (i c n : ℕ) (b : Begins (drop i bs) c n) where
           fs = f .fs;
           ms = ms;
           gs = [];
-          parted = record { all = p .0; is = p .1; front = f .parted .front; back = tt; begins = onto (f .ms) (f .gs ++ c ∷ []) some (f .parted .begins); ends = subst Dark (sym turned) h };
+          parted = record { all = p .0; is = p .1; front = f .parted .front; back = tt; begins = onto (f .ms) (f .gs ++ c ∷ []) some (f .parted .begins); ends = subst NoBlankFirst (sym turned) h };
           within = inside (f .within);
           starts = f .starts;
           stops = ends-here (i + n) (f .fs) ms (inside (f .within)) (p .1);
           nothing = λ l. absurd (omega (arith, length-append (f .ms) (f .gs ++ c ∷ [])))
         }
      where
-      onto : (xs ys : List ℕ) → 0 < length xs → Dark xs → Dark (xs ++ ys)
+      onto : (xs ys : List ℕ) → 0 < length xs → NoBlankFirst xs → NoBlankFirst (xs ++ ys)
       onto [] ys l d = absurd (omega arith)
       onto (x ∷ xs) ys l d = d
       nothing-yet : length (f .ms) ≡ 0 → end ≡ 0
@@ -148,7 +148,7 @@ so-far-end bs at start end h f =
 -- no character begins what is left to walk over: the bytes are not UTF-8, and all of them stay
 pub so-far-stop : (bs : List ℕ) (at start end : ℕ) → at < length bs → SoFar bs at start end → NoCharacter (drop at bs) → Leaves bs 0 (length bs)
 so-far-stop bs at start end h f n =
-    let no-text = stop bs at h (parted-utf8 (take at bs) (f .fs) (f .ms) (f .gs) (f .parted)) n in
+    let no-text = utf8-stops bs at h (parted-utf8 (take at bs) (f .fs) (f .ms) (f .gs) (f .parted)) n in
     record {
       inside = omega arith;
       part = record { text = λ u. absurd (no-text u); other = λ _. take-all (length bs) bs (omega arith) };

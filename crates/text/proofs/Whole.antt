@@ -17,13 +17,13 @@ use Rattle.std.proofs.shelf.Ways.{not-from-decides}
 use Rattle.std.proofs.shelf.Text.{utf8-append, utf8-encode, length-encode, width-bounds, boundary-from-take, utf8-drop, scalars-decodes, encodes-decodes}
 use Rattle.text.specs.Encoding.{NoCharacter, Begins, is-utf8}
 
-pub front : (xs ys : List ℕ) → take (length xs) (xs ++ ys) ≡ xs
-front xs ys = take-append-seam xs ys
+pub take-front : (xs ys : List ℕ) → take (length xs) (xs ++ ys) ≡ xs
+take-front xs ys = take-append-seam xs ys
 
-pub on : (bs : List ℕ) (i c n : ℕ) → i ≤ length bs → Begins (drop i bs) c n → (1 ≤ n) × (i + n ≤ length bs) × (Utf8 (take i bs) → Utf8 (take (i + n) bs))
-on bs i c n h b =
+pub utf8-more : (bs : List ℕ) (i c n : ℕ) → i ≤ length bs → Begins (drop i bs) c n → (1 ≤ n) × (i + n ≤ length bs) × (Utf8 (take i bs) → Utf8 (take (i + n) bs))
+utf8-more bs i c n h b =
     let w : n ≡ length (encode c) = b .1 in
-    let t : take n (drop i bs) ≡ encode c = ap (take n) (b .2) ∙ ap (λ (k : ℕ). take k (encode c ++ drop n (drop i bs))) w ∙ front (encode c) (drop n (drop i bs)) in
+    let t : take n (drop i bs) ≡ encode c = ap (take n) (b .2) ∙ ap (λ (k : ℕ). take k (encode c ++ drop n (drop i bs))) w ∙ take-front (encode c) (drop n (drop i bs)) in
     let l : length (drop i bs) ≡ length (encode c) + length (drop n (drop i bs)) = ap length (b .2) ∙ length-append (encode c) (drop n (drop i bs)) in
     let one : 1 ≤ n = omega (arith, length-encode c, width-bounds c) in
     let room : i + n ≤ length bs = omega (arith, length-drop i bs) in
@@ -33,8 +33,8 @@ no-char : (cs bs : List ℕ) → 0 < length bs → scalars cs ≡ true → encod
 no-char [] bs h s e n = omega (arith, ap length e)
 no-char (c ∷ cs) bs h s e n = n c (encodes cs) (and-parts (scalar c) (scalars cs) s .0) (sym e)
 
-pub stop : (bs : List ℕ) (i : ℕ) → i < length bs → Utf8 (take i bs) → NoCharacter (drop i bs) → Utf8 bs → ⊥
-stop bs i h t n u =
+pub utf8-stops : (bs : List ℕ) (i : ℕ) → i < length bs → Utf8 (take i bs) → NoCharacter (drop i bs) → Utf8 bs → ⊥
+utf8-stops bs i h t n u =
     let d = utf8-drop bs i u (boundary-from-take bs i u (omega arith) t) in
     no-char (d .0) (drop i bs) (omega (arith, length-drop i bs)) (d .1 .0) (d .1 .1) n
 
@@ -42,8 +42,8 @@ stop bs i h t n u =
 pub rest-is : (bs : List ℕ) (i : ℕ) → take (length bs - i) (drop i bs) ≡ drop i bs
 rest-is bs i = take-all (length bs - i) (drop i bs) (omega (arith, length-drop i bs))
 
-pub all : (bs : List ℕ) (i : ℕ) → length bs ≤ i → Utf8 (take i bs) → Utf8 bs
-all bs i h u = subst Utf8 (take-all i bs h) u
+pub utf8-all : (bs : List ℕ) (i : ℕ) → length bs ≤ i → Utf8 (take i bs) → Utf8 bs
+utf8-all bs i h u = subst Utf8 (take-all i bs h) u
 
 -- the test decides whether bytes are UTF-8
 pub is-utf8-decides : (bs : List ℕ) → Decides (is-utf8 bs) (Utf8 bs)

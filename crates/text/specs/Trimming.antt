@@ -14,13 +14,13 @@ use Rattle.text.specs.WhiteSpace.{blank}
 -- ---- as a function
 
 -- the characters from the first on that is not blank
-abbrev pub from-dark : List ℕ → List ℕ
-from-dark [] = []
-from-dark (c ∷ cs) = cond (blank c) (from-dark cs) (c ∷ cs)
+abbrev pub past-blanks : List ℕ → List ℕ
+past-blanks [] = []
+past-blanks (c ∷ cs) = cond (blank c) (past-blanks cs) (c ∷ cs)
 
 -- the characters without the blank ones at both ends
 abbrev pub stripped : List ℕ → List ℕ
-stripped cs = reverse (from-dark (reverse (from-dark cs)))
+stripped cs = reverse (past-blanks (reverse (past-blanks cs)))
 
 -- what trimming leaves of bytes
 unfoldable pub trimmed : List ℕ → List ℕ
@@ -33,7 +33,7 @@ in-front all (c ∷ cs) = all - length (encodes (c ∷ cs))
 
 -- where in the bytes begins what trimming leaves; 0 if nothing is left
 unfoldable pub trimmed-start : List ℕ → ℕ
-trimmed-start bs = cond (is-utf8 bs) (in-front (length bs) (from-dark (decodes bs))) 0
+trimmed-start bs = cond (is-utf8 bs) (in-front (length bs) (past-blanks (decodes bs))) 0
 
 -- ---- in words
 

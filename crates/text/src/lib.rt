@@ -3,3 +3,6 @@ pub mod blank;
 pub mod names;
 pub mod trim;
 pub mod utf8;
+
+#[cfg(test)]
+mod tests;

@@ -1,6 +1,7 @@
 // Names that lie one after another in one text.
 ghost use mathlib.Core.Path.{_≡_};
 ghost use mathlib.Core.List.{[]};
+ghost use Prim.Native.Nat.{_≤_};
 ghost use lib.ListN.{length, getD};
 ghost use Rattle.std.specs.Options.{Cases};
 ghost use Rattle.std.specs.Orderings.{When};
@@ -27,10 +28,10 @@ impl<'a> Names<'a> {
         let mut start = 0;
         for k in 0..ends.len() {
             let end = ends[k] as usize;
-            if end < start || text.len() < end {
+            let Some(name) = bytes_between(text, start, end) else {
                 return false;
-            }
-            if !is_utf8(&text[start..end]) {
+            };
+            if !is_utf8(name) {
                 return false;
             }
             start = end;
@@ -58,10 +59,18 @@ impl<'a> Names<'a> {
             return None;
         }
         let start = if index == 0 { 0 } else { ends[index - 1] as usize };
-        let end = ends[index] as usize;
-        if end < start || text.len() < end {
-            return None;
-        }
+        bytes_between(text, start, ends[index] as usize)
+    }
+}
+
+// The bytes from start to end: none where end lies before start or past the text.
+fn bytes_between(text: &[u8], start: usize, end: usize) -> Option<&[u8]>
+    ensures lies { λ r. ⌜ Cases r ((start ≤ end) × (end ≤ length (now (text .entry))) → ⊥) (λ _. (start ≤ end) × (end ≤ length (now (text .entry)))) ⌝ }
+    ensures bytes { λ r. ⌜ found r (λ part. now part ≡ slice (now (text .entry)) start end) ⌝ }
+{
+    if start <= end && end <= text.len() {
         Some(&text[start..end])
+    } else {
+        None
     }
 }

@@ -5,7 +5,7 @@ use borrow.Author.Needs.{needs}
 use native.Mathlib.Omega.{arith}
 use lib.ListN.{length, drop}
 use Rattle.text.specs.Encoding.{Begins, NoCharacter}
-use Rattle.text.proofs.Whole.{on, rest-is}
+use Rattle.text.proofs.Whole.{utf8-more, rest-is}
 use Rattle.text.proofs.TrimWalk.{so-far-none, so-far-blank, so-far-first, so-far-more, so-far-end, so-far-stop, leaves-is, leaves-only}
 use Rattle.text.proofs.trim.trimmed_part.Needs as need
 use Rattle.text.proofs.trim.trimmed_part.Needs.{In-Some, at·add-next, at·loop-at-less, at·loop-at-again, at·loop-at-less-then-end-eq0, at·loop-at-again-then-end-eq0, at·loop-at-less-else-end-eq0, at·loop-at-again-else-end-eq0}
@@ -17,7 +17,7 @@ begins c = subst (λ (l : List ℕ). Begins l (c .in-Some .first .character) (c 
 -- it takes at least a byte, and no byte past the end
 goes : (c : In-Some) → (1 ≤ c .in-Some .first .len) × (c .loop-at .at + c .in-Some .first .len ≤ length (c .args .bytes .now))
 goes c =
-    let s = on (c .args .bytes .now) (c .loop-at .at) (c .in-Some .first .character) (c .in-Some .first .len) (c .loop-at .inv .within) (begins c) in
+    let s = utf8-more (c .args .bytes .now) (c .loop-at .at) (c .in-Some .first .character) (c .in-Some .first .len) (c .loop-at .inv .within) (begins c) in
     (s .0, s .1)
 
 pub loop-at-holds : need.loop-at-holds

@@ -6,7 +6,7 @@ use native.Mathlib.Omega.{arith}
 use lib.ListN.{length, take}
 use Rattle.std.specs.Text.{Utf8}
 use Rattle.text.specs.Encoding.{NoCharacter, Begins}
-use Rattle.text.proofs.Whole.{on, stop, rest-is, all, is-utf8-yes, is-utf8-no}
+use Rattle.text.proofs.Whole.{utf8-more, utf8-stops, rest-is, utf8-all, is-utf8-yes, is-utf8-no}
 use Rattle.text.proofs.utf8.is_utf8.Needs as need
 use Rattle.text.proofs.utf8.is_utf8.Needs.{In-Some, at·add-at, at·loop-at-less, at·loop-at-again}
 
@@ -16,7 +16,7 @@ step c =
     let i = c .loop-at .at in
     let n = c .in-Some .first .len in
     let k = c .in-Some .first .character in
-    on bs i k n (c .loop-at .inv .0) (subst (λ (l : List ℕ). Begins l k n) (rest-is bs i) (c .in-Some .ensures tt))
+    utf8-more bs i k n (c .loop-at .inv .0) (subst (λ (l : List ℕ). Begins l k n) (rest-is bs i) (c .in-Some .ensures tt))
 
 pub add-at : need.add-at
 add-at c = let s = step (at·add-at c .In-Some) in search needs
@@ -31,11 +31,11 @@ pub returns-in-None : need.returns-in-None
 returns-in-None c =
     let bs = c .args .bytes .now in
     let i = c .loop-at .at in
-    let n = stop bs i (c .loop-at-test .taken) (c .loop-at .inv .1) (subst NoCharacter (rest-is bs i) (c .in-None .ensures tt)) in
+    let n = utf8-stops bs i (c .loop-at-test .taken) (c .loop-at .inv .1) (subst NoCharacter (rest-is bs i) (c .in-None .ensures tt)) in
     record { is = sym (is-utf8-no bs n); law = n }
 
 pub returns : need.returns
 returns c =
     let bs = c .args .bytes .now in
-    let u = all bs (c .loop-at .at) (c .loop-at-test .left) (c .loop-at .inv .1) in
+    let u = utf8-all bs (c .loop-at .at) (c .loop-at-test .left) (c .loop-at .inv .1) in
     record { is = sym (is-utf8-yes bs u); law = u }
