@@ -1,12 +1,12 @@
 -- Names in one text with their ends.
 use mathlib.Core.Path.{_≡_, refl, sym, ap, _∙_, subst}
 use mathlib.Core.Bool.{Bool, true, false, _&&_}
-use mathlib.Core.Logic.{_⊎_, inl, inr}
+use mathlib.Core.Logic.{inl, inr}
 use mathlib.Core.List.{List, [], _∷_}
 use Prim.Native.Nat.{ℕ, zero, suc, _+_, _-_, _<_, _≤_}
 use native.Mathlib.Omega.{arith}
 use lib.Dec.{leb}
-use lib.ListN.{length, getD, take, drop}
+use lib.ListN.{length, getD, drop}
 use denote.Ref.{RefT}
 use Rattle.std.specs.declared.option.Option.{Option}
 use Rattle.std.specs.declared.option.Option.the-variants.{Some, None}
@@ -14,12 +14,12 @@ use Rattle.std.specs.Options.{Cases}
 use Rattle.std.specs.Orderings.{Decides, When}
 use Rattle.std.specs.Slices.{found}
 use Rattle.std.specs.Text.{Utf8}
-use Rattle.std.proofs.shelf.Lists.{at-drop-more, at-drop-all}
-use Rattle.std.proofs.shelf.Tests.{le-leb, lt-leb, leb-true, and-parts, and-from, and-left, and-right, cases-bool}
+use Rattle.std.proofs.shelf.Lists.{at-drop-more}
+use Rattle.std.proofs.shelf.Tests.{le-leb, leb-true, and-parts, and-from, cases-bool}
 use Rattle.std.proofs.shelf.Ways.{not-from-decides}
 use Rattle.text.specs.Encoding.{is-utf8}
-use Rattle.text.specs.Naming.{name-start, name-end, slice, Lies, names-from, names-of, sound-from, sound-names, Sound}
-use Rattle.text.proofs.Whole.{is-utf8-decides, is-utf8-yes, is-utf8-no}
+use Rattle.text.specs.Naming.{name-start, name-end, slice, Lies, sound-name, names-from, names-of, sound-from, sound-names, Sound}
+use Rattle.text.proofs.Whole.{is-utf8-decides, is-utf8-yes}
 
 -- there are as many names as ends
 names-from-length : (start : ℕ) (text ends : List ℕ) → length (names-from start text ends) ≡ length ends
@@ -68,14 +68,13 @@ name-listed text ends k h (Some x) f = f ∙ sym (names-get text ends k h)
 abbrev Fine : List ℕ → ℕ → ℕ → Type 0
 Fine text start end = (start ≤ end) × (end ≤ length text) × Utf8 (slice text start end)
 
-
 module _ (text : List ℕ) (start end : ℕ) where
-  fine-yes : Fine text start end → (leb start end && (leb end (length text) && is-utf8 (slice text start end))) ≡ true
+  fine-yes : Fine text start end → sound-name text start end ≡ true
   fine-yes f =
       and-from (leb start end) (leb end (length text) && is-utf8 (slice text start end)) (le-leb start end (f .0))
       (and-from (leb end (length text)) (is-utf8 (slice text start end)) (le-leb end (length text) (f .1)) (is-utf8-yes (slice text start end) (f .2)))
 
-  fine-from : (leb start end && (leb end (length text) && is-utf8 (slice text start end))) ≡ true → Fine text start end
+  fine-from : sound-name text start end ≡ true → Fine text start end
   fine-from e =
       let a = and-parts (leb start end) (leb end (length text) && is-utf8 (slice text start end)) e in
       let b = and-parts (leb end (length text)) (is-utf8 (slice text start end)) (a .1) in
@@ -83,20 +82,21 @@ module _ (text : List ℕ) (start end : ℕ) where
 
 sound-from-all : (start : ℕ) (text ends : List ℕ) → sound-from start text ends ≡ true → (k : ℕ) → k < length ends → Fine text (getD (start ∷ ends) k 0) (getD ends k 0)
 sound-from-all start text [] s k h = absurd (omega arith)
-sound-from-all start text (e ∷ ends) s zero h = fine-from text start e (and-parts (leb start e && (leb e (length text) && is-utf8 (slice text start e))) (sound-from e text ends) s .0)
+sound-from-all start text (e ∷ ends) s zero h = fine-from text start e (and-parts (sound-name text start e) (sound-from e text ends) s .0)
 sound-from-all start text (e ∷ ends) s (suc k) h =
-    sound-from-all e text ends (and-parts (leb start e && (leb e (length text) && is-utf8 (slice text start e))) (sound-from e text ends) s .1) k (omega arith)
+    sound-from-all e text ends (and-parts (sound-name text start e) (sound-from e text ends) s .1) k (omega arith)
 
 all-sound-from : (start : ℕ) (text ends : List ℕ) → ((k : ℕ) → k < length ends → Fine text (getD (start ∷ ends) k 0) (getD ends k 0)) → sound-from start text ends ≡ true
 all-sound-from start text [] f = refl
 all-sound-from start text (e ∷ ends) f =
-    and-from (leb start e && (leb e (length text) && is-utf8 (slice text start e))) (sound-from e text ends) (fine-yes text start e (f zero (omega arith))) (all-sound-from e text ends (λ k h. f (suc k) (omega arith)))
+    and-from (sound-name text start e) (sound-from e text ends) (fine-yes text start e (f zero (omega arith))) (all-sound-from e text ends (λ k h. f (suc k) (omega arith)))
 
 -- the test is true exactly of sound names
 pub sound-decides : (text ends : List ℕ) → Decides (sound-names text ends) (Sound text ends)
-sound-decides text ends =
-    ( λ s k h. let f = sound-from-all 0 text ends s k h in ((h, f .0, f .1), f .2)
-    , λ w. all-sound-from 0 text ends (λ k h. let l = w k h in (l .0 .1, l .0 .2, l .1)) )
+sound-decides text ends = (
+  λ s k h. let f = sound-from-all 0 text ends s k h in ((h, f .0, f .1), f .2),
+  λ w. all-sound-from 0 text ends (λ k h. let l = w k h in (l .0 .1, l .0 .2, l .1)),
+)
 
 pub sound-when : (text ends : List ℕ) (b : Bool) → b ≡ sound-names text ends → When b (Sound text ends) (Sound text ends → ⊥)
 sound-when text ends true e = sound-decides text ends .0 (sym e)
@@ -104,18 +104,28 @@ sound-when text ends false e = not-from-decides (sound-names text ends) (sound-d
 
 -- ---- a walk over the ends: one name on
 module _ (text ends : List ℕ) (start k : ℕ) (lt : k < length ends) where
-  sound-split : sound-from start text (drop k ends) ≡ ((leb start (getD ends k 0) && (leb (getD ends k 0) (length text) && is-utf8 (slice text start (getD ends k 0)))) && sound-from (getD ends k 0) text (drop (k + 1) ends))
+  sound-split : sound-from start text (drop k ends) ≡ (sound-name text start (getD ends k 0) && sound-from (getD ends k 0) text (drop (k + 1) ends))
   sound-split = at-drop-more (sound-from start text) ends k 0 lt
 
-  pub sound-on : Fine text start (getD ends k 0) → sound-from (getD ends k 0) text (drop (k + 1) ends) ≡ sound-from start text (drop k ends)
-  sound-on f = sym (sound-split ∙ ap (λ (b : Bool). b && sound-from (getD ends k 0) text (drop (k + 1) ends)) (fine-yes text start (getD ends k 0) f))
-
-  pub sound-stops : (Fine text start (getD ends k 0) → ⊥) → sound-from start text (drop k ends) ≡ false
-  sound-stops n =
+  stops : (Fine text start (getD ends k 0) → ⊥) → sound-from start text (drop k ends) ≡ false
+  stops n =
       elim (cases-bool (sound-from start text (drop k ends))) [
-        | inl e ↦ absurd (n (fine-from text start (getD ends k 0) (and-parts (leb start (getD ends k 0) && (leb (getD ends k 0) (length text) && is-utf8 (slice text start (getD ends k 0)))) (sound-from (getD ends k 0) text (drop (k + 1) ends)) (sym sound-split ∙ e) .0)))
+        | inl e ↦ absurd (n (fine-from text start (getD ends k 0) (and-parts (sound-name text start (getD ends k 0)) (sound-from (getD ends k 0) text (drop (k + 1) ends)) (sym sound-split ∙ e) .0)))
         | inr e ↦ e
       ]
+
+  -- it leaves the text
+  pub sound-leaves : ((start ≤ getD ends k 0) × (getD ends k 0 ≤ length text) → ⊥) → sound-from start text (drop k ends) ≡ false
+  sound-leaves n = stops (λ f. n (f .0, f .1))
+
+  module _ (name : List ℕ) (is : name ≡ slice text start (getD ends k 0)) where
+    -- it is not UTF-8
+    pub sound-no-text : (Utf8 name → ⊥) → sound-from start text (drop k ends) ≡ false
+    sound-no-text n = stops (λ f. n (subst Utf8 (sym is) (f .2)))
+
+    -- it is sound
+    pub sound-on : (start ≤ getD ends k 0) × (getD ends k 0 ≤ length text) → Utf8 name → sound-from (getD ends k 0) text (drop (k + 1) ends) ≡ sound-from start text (drop k ends)
+    sound-on l u = sym (sound-split ∙ ap (λ (b : Bool). b && sound-from (getD ends k 0) text (drop (k + 1) ends)) (fine-yes text start (getD ends k 0) (l .0, l .1, subst Utf8 is u)))
 
 -- ---- laws for callers
 

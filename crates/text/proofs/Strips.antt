@@ -1,6 +1,6 @@
 -- Characters without the blank ones at both ends.
 use mathlib.Core.Path.{_≡_, refl, sym, ap, _∙_, subst}
-use mathlib.Core.Bool.{Bool, true, false}
+use mathlib.Core.Bool.{true, false}
 use mathlib.Core.Logic.{inl, inr}
 use mathlib.Core.List.{List, [], _∷_, _++_, reverse, reverse-cons, reverse-append, reverse-reverse, append-nil}
 use Prim.Native.Nat.{ℕ}
@@ -69,11 +69,12 @@ split cs =
     let d = past-blanks cs in
     let b = front-split (reverse d) in
     let e = past-blanks (reverse d) in
-    let whole : d ≡ stripped cs ++ reverse (b .0) = sym (reverse-reverse d) ∙ ap reverse (b .1) ∙ reverse-append (b .0) e in
-    ( f .0
-    , reverse (b .0)
-    , f .1 ∙ ap (λ (l : List ℕ). f .0 ++ l) whole
-    , f .2
-    , all-blank-reverse (b .0) (b .2)
-    , no-blank-first-front (stripped cs) (reverse (b .0)) (subst NoBlankFirst whole (f .3))
-    , subst NoBlankFirst (sym (reverse-reverse e)) (b .3) )
+    let whole : d ≡ stripped cs ++ reverse (b .0) = sym (reverse-reverse d) ∙ ap reverse (b .1) ∙ reverse-append (b .0) e in (
+      f .0,
+      reverse (b .0),
+      f .1 ∙ ap (λ (l : List ℕ). f .0 ++ l) whole,
+      f .2,
+      all-blank-reverse (b .0) (b .2),
+      no-blank-first-front (stripped cs) (reverse (b .0)) (subst NoBlankFirst whole (f .3)),
+      subst NoBlankFirst (sym (reverse-reverse e)) (b .3),
+    )

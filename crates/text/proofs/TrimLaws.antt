@@ -1,23 +1,22 @@
 -- What trimming leaves of bytes: the function `trimmed` against the relation `Trims`, and the part that it lies in.
 use mathlib.Core.Path.{_≡_, refl, sym, ap, _∙_, subst}
-use mathlib.Core.Bool.{Bool, true, false, _&&_, cond}
-use mathlib.Core.Logic.{_⊎_, inl, inr}
-use mathlib.Core.List.{List, [], _∷_, _++_, reverse, reverse-cons, reverse-append, reverse-reverse, append-nil, append-assoc}
+use mathlib.Core.Bool.{true, false}
+use mathlib.Core.Logic.{inl, inr}
+use mathlib.Core.List.{List, [], _∷_, _++_, reverse, reverse-cons, reverse-append, reverse-reverse, append-nil}
 use Prim.Native.Nat.{ℕ, _+_, _-_, _≤_, _<_}
 use native.Mathlib.Omega.{arith}
 use lib.Chars.{codes}
-use lib.ListN.{length, take, drop, length-append}
+use lib.ListN.{length, take, length-append}
 use lib.Utf8.{scalar, scalars, encode, encodes}
 use Rattle.std.specs.Text.{Utf8}
-use Rattle.std.specs.shelf.Lists.{All}
 use Rattle.std.specs.shelf.Text.{decodes}
-use Rattle.std.proofs.shelf.Lists.{drop-at, take-at}
+use Rattle.std.proofs.shelf.Lists.{take-at}
 use Rattle.std.proofs.shelf.Tests.{cases-bool, cond-true, cond-false, and-parts, and-from, both-ways}
-use Rattle.std.proofs.shelf.Text.{encodes-append, encodes-same, cons-from-encodes, boundary-at-seam, utf8-take, utf8-encode, decodes-from-encodes, encodes-decodes, scalars-decodes, utf8-append}
+use Rattle.std.proofs.shelf.Text.{encodes-append, encodes-same, cons-from-encodes, boundary-at-seam, utf8-take, utf8-encode, decodes-from-encodes}
 use Rattle.text.specs.Encoding.{is-utf8}
 use Rattle.text.specs.WhiteSpace.{blank}
-use Rattle.text.specs.Trimming.{past-blanks, stripped, trimmed, trimmed-start, in-front, Blanks, Bare, Between, Trims, Leaves}
-use Rattle.text.proofs.Strips.{AllBlank, NoBlankFirst, no-blank-first-front, past-blanks-join, past-blanks-none, past-blanks-same, stripped-is, split}
+use Rattle.text.specs.Trimming.{past-blanks, stripped, trimmed, trimmed-start, in-front, Blanks, Bare, Trims}
+use Rattle.text.proofs.Strips.{AllBlank, NoBlankFirst, past-blanks-join, past-blanks-none, past-blanks-same, stripped-is, split}
 use Rattle.text.proofs.Whole.{is-utf8-yes, is-utf8-no, utf8-cases}
 
 -- ---- lists of characters and their bytes
@@ -64,14 +63,15 @@ not-first : (c : ℕ) (cs rs : List ℕ) → rs ≡ c ∷ cs → NoBlankFirst rs
 not-first c cs rs q d e = both-ways (blank c) (subst NoBlankFirst q d) e
 
 pub characters-bare : (rs : List ℕ) → scalars rs ≡ true → NoBlankFirst rs → NoBlankFirst (reverse rs) → Bare (encodes rs)
-characters-bare rs s d e c rest sc bl =
-    ( (λ q. let r = cons-from-encodes rs rest c q in not-first c (r .0) rs (r .1) d bl)
-    , (λ q.
-        let u : Utf8 (encodes rs) = (rs, (s, refl)) in
-        let k = boundary-at-seam (encodes rs) rest (encode c) q (utf8-encode c sc) in
-        let t : Utf8 rest = subst Utf8 (ap (take (length rest)) q ∙ take-at rest (encode c) (length rest) refl) (utf8-take (encodes rs) (length rest) u k) in
-        let w : rs ≡ t .0 ++ c ∷ [] = encodes-same rs (t .0 ++ c ∷ []) (q ∙ ap (λ (l : List ℕ). l ++ encode c) (sym (t .1 .1)) ∙ sym (encodes-push (t .0) c)) in
-        not-first c (reverse (t .0)) (reverse rs) (ap reverse w ∙ reverse-append (t .0) (c ∷ [])) e bl) )
+characters-bare rs s d e c rest sc bl = (
+  (λ q. let r = cons-from-encodes rs rest c q in not-first c (r .0) rs (r .1) d bl),
+  (λ q.
+      let u : Utf8 (encodes rs) = (rs, (s, refl)) in
+      let k = boundary-at-seam (encodes rs) rest (encode c) q (utf8-encode c sc) in
+      let t : Utf8 rest = subst Utf8 (ap (take (length rest)) q ∙ take-at rest (encode c) (length rest) refl) (utf8-take (encodes rs) (length rest) u k) in
+      let w : rs ≡ t .0 ++ c ∷ [] = encodes-same rs (t .0 ++ c ∷ []) (q ∙ ap (λ (l : List ℕ). l ++ encode c) (sym (t .1 .1)) ∙ sym (encodes-push (t .0) c)) in
+      not-first c (reverse (t .0)) (reverse rs) (ap reverse w ∙ reverse-append (t .0) (c ∷ [])) e bl),
+)
 
 -- ---- the function and the relation
 
@@ -93,7 +93,7 @@ parted-trims bs fs ms gs p =
     let t = scalars-parts ms gs (s .1) in
     record {
       text = λ _. (encodes fs, encodes gs, sym (p .is) ∙ encodes-three fs ms gs, (fs, s .0, refl, p .front), (ms, (t .0, refl)), (gs, t .1, refl, p .back), characters-bare ms (t .0) (p .begins) (p .ends));
-      other = λ n. absurd (n (parted-utf8 bs fs ms gs p))
+      other = λ n. absurd (n (parted-utf8 bs fs ms gs p));
     }
 
 -- the function gives the middle one
@@ -115,25 +115,26 @@ between-parted bs front r back q F R G b =
       front = F .3;
       back = G .3;
       begins = d .0;
-      ends = d .1
+      ends = d .1;
     }
 
 -- UTF-8 bytes, parted at what is left of their characters
 pub utf8-parted : (bs : List ℕ) → Utf8 bs → (fs : List ℕ) × (ms : List ℕ) × (gs : List ℕ) × Parted bs fs ms gs
 utf8-parted bs u =
     let cs = u .0 in
-    let s = split cs in
-    ( s .0
-    , stripped cs
-    , s .1
-    , record {
+    let s = split cs in (
+      s .0,
+      stripped cs,
+      s .1,
+      record {
         all = subst (λ (l : List ℕ). scalars l ≡ true) (s .2) (u .1 .0);
         is = ap encodes (sym (s .2)) ∙ u .1 .1;
         front = s .3;
         back = s .4;
         begins = s .5;
-        ends = s .6
-      } )
+        ends = s .6;
+      },
+    )
 
 -- bytes that are not UTF-8 stay
 pub trimmed-other : (bs : List ℕ) → (Utf8 bs → ⊥) → trimmed bs ≡ bs
@@ -200,14 +201,14 @@ unfolding trimmed-start
 parted-start bs fs ms gs p =
     let u = parted-utf8 bs fs ms gs p in
     let e : trimmed-start bs ≡ in-front (length bs) (past-blanks (ms ++ gs)) =
-        cond-true (is-utf8 bs) (in-front (length bs) (past-blanks (decodes bs))) 0 (is-utf8-yes bs u)
-        ∙ ap (λ (l : List ℕ). in-front (length bs) (past-blanks l)) (sym (decodes-from-encodes (fs ++ (ms ++ gs)) bs u (p .is)))
-        ∙ ap (in-front (length bs)) (past-blanks-join fs (ms ++ gs) (p .front)) in
+    cond-true (is-utf8 bs) (in-front (length bs) (past-blanks (decodes bs))) 0 (is-utf8-yes bs u)
+    ∙ ap (λ (l : List ℕ). in-front (length bs) (past-blanks l)) (sym (decodes-from-encodes (fs ++ (ms ++ gs)) bs u (p .is)))
+    ∙ ap (in-front (length bs)) (past-blanks-join fs (ms ++ gs) (p .front)) in
     by-middle ms e (p .begins) (p .is)
- where
-  by-middle : (xs : List ℕ) → trimmed-start bs ≡ in-front (length bs) (past-blanks (xs ++ gs)) → NoBlankFirst xs → encodes (fs ++ (xs ++ gs)) ≡ bs → (length xs ≡ 0 → trimmed-start bs ≡ 0) × (0 < length xs → trimmed-start bs ≡ length (encodes fs))
-  by-middle [] e d q = (λ _. e ∙ ap (in-front (length bs)) (past-blanks-none gs (p .back)), λ h. absurd (omega arith))
-  by-middle (x ∷ xs) e d q =
-      let all : length bs ≡ length (encodes fs) + length (encodes (x ∷ xs ++ gs)) = ap length (sym q ∙ encodes-append fs (x ∷ xs ++ gs)) ∙ length-append (encodes fs) (encodes (x ∷ xs ++ gs)) in
-      let f : trimmed-start bs ≡ length bs - length (encodes (x ∷ xs ++ gs)) = e ∙ ap (in-front (length bs)) (past-blanks-same (x ∷ xs ++ gs) d) in
-      (λ h. absurd (omega arith), λ _. omega (arith, all, f))
+  where
+    by-middle : (xs : List ℕ) → trimmed-start bs ≡ in-front (length bs) (past-blanks (xs ++ gs)) → NoBlankFirst xs → encodes (fs ++ (xs ++ gs)) ≡ bs → (length xs ≡ 0 → trimmed-start bs ≡ 0) × (0 < length xs → trimmed-start bs ≡ length (encodes fs))
+    by-middle [] e d q = (λ _. e ∙ ap (in-front (length bs)) (past-blanks-none gs (p .back)), λ h. absurd (omega arith))
+    by-middle (x ∷ xs) e d q =
+        let all : length bs ≡ length (encodes fs) + length (encodes (x ∷ xs ++ gs)) = ap length (sym q ∙ encodes-append fs (x ∷ xs ++ gs)) ∙ length-append (encodes fs) (encodes (x ∷ xs ++ gs)) in
+        let f : trimmed-start bs ≡ length bs - length (encodes (x ∷ xs ++ gs)) = e ∙ ap (in-front (length bs)) (past-blanks-same (x ∷ xs ++ gs) d) in
+        (λ h. absurd (omega arith), λ _. omega (arith, all, f))

@@ -1,22 +1,21 @@
 -- The walk over bytes that finds what trimming leaves: one character after another, and what it has found at the end.
 use mathlib.Core.Path.{_≡_, refl, sym, ap, _∙_, subst}
 use mathlib.Core.Bool.{true, false}
-use mathlib.Core.Logic.{_⊎_, inl, inr}
+use mathlib.Core.Logic.{inl, inr}
 use mathlib.Core.List.{List, [], _∷_, _++_, reverse, reverse-append, append-nil, append-assoc}
 use Prim.Native.Nat.{ℕ, _+_, _-_, _≤_, _<_}
 use native.Mathlib.Omega.{arith}
 use lib.ListN.{length, take, drop, length-append, length-drop}
 use lib.Seq.{take-add}
 use lib.Utf8.{scalar, scalars, encode, encodes}
-use Rattle.std.specs.Text.{Utf8}
 use Rattle.std.proofs.shelf.Elements.{all-push}
 use Rattle.std.proofs.shelf.Lists.{drop-at, take-at, take-all, length-take-le, nil-from-length, take-append-drop, drop-drop}
 use Rattle.std.proofs.shelf.Tests.{and-from, cases-lt}
-use Rattle.std.proofs.shelf.Text.{encodes-append, length-le-encodes}
+use Rattle.std.proofs.shelf.Text.{length-le-encodes}
 use Rattle.text.specs.Encoding.{Begins, NoCharacter}
 use Rattle.text.specs.WhiteSpace.{blank}
-use Rattle.text.specs.Trimming.{trimmed, trimmed-start, Blanks, Trims, Leaves}
-use Rattle.text.proofs.Strips.{AllBlank, NoBlankFirst}
+use Rattle.text.specs.Trimming.{trimmed, trimmed-start, Trims, Leaves}
+use Rattle.text.proofs.Strips.{NoBlankFirst}
 use Rattle.text.proofs.Whole.{take-front, utf8-stops, utf8-cases}
 use Rattle.text.proofs.TrimLaws.{Parted, scalars-join, scalars-parts, encodes-push, encodes-three, parted-utf8, parted-trims, parted-start, trimmed-start-other, between-parted, trims-only}
 
@@ -50,9 +49,10 @@ module _ (bs : List ℕ) (i c n : ℕ) (b : Begins (drop i bs) c n) where
 
   -- the characters so far, and this one
   pushed : (cs ds : List ℕ) → scalars cs ≡ true → encodes cs ≡ take i bs → ds ≡ cs ++ c ∷ [] → (scalars ds ≡ true) × (encodes ds ≡ take (i + n) bs)
-  pushed cs ds s e q =
-      ( subst (λ (l : List ℕ). scalars l ≡ true) (sym q) (scalars-join cs (c ∷ []) s (and-from (scalar c) true (b .0) refl))
-      , ap encodes q ∙ encodes-push cs c ∙ ap (λ (l : List ℕ). l ++ encode c) e ∙ sym one-more )
+  pushed cs ds s e q = (
+    subst (λ (l : List ℕ). scalars l ≡ true) (sym q) (scalars-join cs (c ∷ []) s (and-from (scalar c) true (b .0) refl)),
+    ap encodes q ∙ encodes-push cs c ∙ ap (λ (l : List ℕ). l ++ encode c) e ∙ sym one-more,
+  )
 
   module _ (start end : ℕ) (f : SoFar bs i start end) where
     pub so-far-blank : blank c ≡ true → SoFar bs (i + n) start end
@@ -67,7 +67,7 @@ module _ (bs : List ℕ) (i c n : ℕ) (b : Begins (drop i bs) c n) where
           within = inside (f .within);
           starts = f .starts;
           stops = f .stops;
-          nothing = f .nothing
+          nothing = f .nothing;
         }
 
     -- where no blank character follows, the others end at the place itself
@@ -90,7 +90,7 @@ module _ (bs : List ℕ) (i c n : ℕ) (b : Begins (drop i bs) c n) where
           within = inside (f .within);
           starts = here;
           stops = ends-here (i + n) (f .gs) (c ∷ []) (inside (f .within)) (p .1);
-          nothing = λ l. absurd (omega arith)
+          nothing = λ l. absurd (omega arith);
         }
 
     -- a later one
@@ -109,17 +109,18 @@ module _ (bs : List ℕ) (i c n : ℕ) (b : Begins (drop i bs) c n) where
           within = inside (f .within);
           starts = f .starts;
           stops = ends-here (i + n) (f .fs) ms (inside (f .within)) (p .1);
-          nothing = λ l. absurd (omega (arith, length-append (f .ms) (f .gs ++ c ∷ [])))
+          nothing = λ l. absurd (omega (arith, length-append (f .ms) (f .gs ++ c ∷ [])));
         }
-     where
-      onto : (xs ys : List ℕ) → 0 < length xs → NoBlankFirst xs → NoBlankFirst (xs ++ ys)
-      onto [] ys l d = absurd (omega arith)
-      onto (x ∷ xs) ys l d = d
-      nothing-yet : length (f .ms) ≡ 0 → end ≡ 0
-      nothing-yet l =
-          let m : f .ms ≡ [] = nil-from-length (f .ms) l in
-          let k : f .fs ≡ [] = nil-from-length (f .fs) (f .nothing l) in
-          f .stops ∙ (λ j. length (encodes (k j)) + length (encodes (m j)))
+      where
+        onto : (xs ys : List ℕ) → 0 < length xs → NoBlankFirst xs → NoBlankFirst (xs ++ ys)
+        onto [] ys l d = absurd (omega arith)
+        onto (x ∷ xs) ys l d = d
+
+        nothing-yet : length (f .ms) ≡ 0 → end ≡ 0
+        nothing-yet l =
+            let m : f .ms ≡ [] = nil-from-length (f .ms) l in
+            let k : f .fs ≡ [] = nil-from-length (f .fs) (f .nothing l) in
+            f .stops ∙ (λ j. length (encodes (k j)) + length (encodes (m j)))
 
 -- ---- the end of the walk
 
@@ -135,15 +136,16 @@ so-far-end bs at start end h f =
     let l : end - start ≡ length R = omega (arith, f .starts, f .stops) in
     let rest : drop start bs ≡ R ++ G = ap (drop start) whole ∙ drop-at F (R ++ G) start (sym (f .starts)) in
     let mid : take (end - start) (drop start bs) ≡ R = ap (take (end - start)) rest ∙ take-at R G (end - start) (sym l) in
-    let tail : drop (start + (end - start)) bs ≡ G = sym (drop-drop (end - start) start bs) ∙ ap (drop (end - start)) rest ∙ drop-at R G (end - start) (sym l) in
-    ( omega (arith, f .starts, f .stops)
-    , record {
+    let tail : drop (start + (end - start)) bs ≡ G = sym (drop-drop (end - start) start bs) ∙ ap (drop (end - start)) rest ∙ drop-at R G (end - start) (sym l) in (
+      omega (arith, f .starts, f .stops),
+      record {
         inside = omega (arith, f .starts, l, ap length whole, length-append F (R ++ G), length-append R G);
         part = subst (Trims bs) (sym mid) (parted-trims bs (f .fs) (f .ms) (f .gs) P);
         before = λ _. (f .fs, s .0, sym (ap (take start) whole ∙ take-at F (R ++ G) start (sym (f .starts))), P .front);
         after = λ _. (f .gs, t .1, sym tail, P .back);
-        nothing = λ z. f .starts ∙ ap (λ (l : List ℕ). length (encodes l)) (nil-from-length (f .fs) (f .nothing (no-bytes-none (f .ms) (sym l ∙ z))))
-      } )
+        nothing = λ z. f .starts ∙ ap (λ (l : List ℕ). length (encodes l)) (nil-from-length (f .fs) (f .nothing (no-bytes-none (f .ms) (sym l ∙ z))));
+      },
+    )
 
 -- no character begins what is left to walk over: the bytes are not UTF-8, and all of them stay
 pub so-far-stop : (bs : List ℕ) (at start end : ℕ) → at < length bs → SoFar bs at start end → NoCharacter (drop at bs) → Leaves bs 0 (length bs)
@@ -154,7 +156,7 @@ so-far-stop bs at start end h f n =
       part = record { text = λ u. absurd (no-text u); other = λ _. take-all (length bs) bs (omega arith) };
       before = λ u. absurd (no-text u);
       after = λ u. absurd (no-text u);
-      nothing = λ _. refl
+      nothing = λ _. refl;
     }
 
 -- the part that trimming leaves is the function's, so there is only one
@@ -163,27 +165,27 @@ leaves-is bs start len v =
     let e = trims-only bs (take len (drop start bs)) (v .part) in
     let l : length (take len (drop start bs)) ≡ len = length-take-le len (drop start bs) (omega (arith, v .inside, length-drop start bs)) in
     (starts-at e l, sym l ∙ ap length e, e)
- where
-  starts-at : take len (drop start bs) ≡ trimmed bs → length (take len (drop start bs)) ≡ len → start ≡ trimmed-start bs
-  starts-at e l =
-      elim (utf8-cases bs) [
-        | inl u ↦
-            let x = take len (drop start bs) in
-            let whole : bs ≡ take start bs ++ (x ++ drop (start + len) bs) =
-                sym (take-append-drop start bs) ∙ ap (λ (r : List ℕ). take start bs ++ r) (sym (take-append-drop len (drop start bs)) ∙ ap (λ (r : List ℕ). x ++ r) (drop-drop len start bs)) in
-            let F = v .before u in
-            let G = v .after u in
-            let b = v .part .text u in
-            let R = b .4 in
-            let p = parted-start bs (F .0) (R .0) (G .0) (between-parted bs (take start bs) x (drop (start + len) bs) whole F R G (b .6)) in
-            elim (cases-lt 0 (length (R .0))) [
-              | inl some ↦ sym (p .1 some ∙ ap length (F .2) ∙ length-take-le start bs (omega (arith, v .inside)))
-              | inr less ↦
-                  let none : length (R .0) ≡ 0 = omega arith in
-                  v .nothing (sym l ∙ ap length (sym (R .1 .1)) ∙ ap (λ (r : List ℕ). length (encodes r)) (nil-from-length (R .0) none)) ∙ sym (p .0 none)
-            ]
-        | inr n ↦ omega (arith, trimmed-start-other bs n, v .inside, ap length (v .part .other n))
-      ]
+  where
+    starts-at : take len (drop start bs) ≡ trimmed bs → length (take len (drop start bs)) ≡ len → start ≡ trimmed-start bs
+    starts-at e l =
+        elim (utf8-cases bs) [
+          | inl u ↦
+              let x = take len (drop start bs) in
+              let whole : bs ≡ take start bs ++ (x ++ drop (start + len) bs) =
+              sym (take-append-drop start bs) ∙ ap (λ (r : List ℕ). take start bs ++ r) (sym (take-append-drop len (drop start bs)) ∙ ap (λ (r : List ℕ). x ++ r) (drop-drop len start bs)) in
+              let F = v .before u in
+              let G = v .after u in
+              let b = v .part .text u in
+              let R = b .4 in
+              let p = parted-start bs (F .0) (R .0) (G .0) (between-parted bs (take start bs) x (drop (start + len) bs) whole F R G (b .6)) in
+              elim (cases-lt 0 (length (R .0))) [
+                | inl some ↦ sym (p .1 some ∙ ap length (F .2) ∙ length-take-le start bs (omega (arith, v .inside)))
+                | inr less ↦
+                    let none : length (R .0) ≡ 0 = omega arith in
+                    v .nothing (sym l ∙ ap length (sym (R .1 .1)) ∙ ap (λ (r : List ℕ). length (encodes r)) (nil-from-length (R .0) none)) ∙ sym (p .0 none)
+              ]
+          | inr n ↦ omega (arith, trimmed-start-other bs n, v .inside, ap length (v .part .other n))
+        ]
 
 pub leaves-only : (bs : List ℕ) (start len : ℕ) → Leaves bs start len → (s n : ℕ) → Leaves bs s n → (s ≡ start) × (n ≡ len)
 leaves-only bs start len v s n w =

@@ -1,5 +1,4 @@
 -- Names that lie one after another in one text: a list of ends, each name from the end before it (the first from 0) to its own.
-use mathlib.Core.Path.{_≡_}
 use mathlib.Core.Bool.{Bool, true, _&&_}
 use mathlib.Core.List.{List, [], _∷_}
 use Prim.Native.Nat.{ℕ, _-_, _≤_, _<_}
@@ -34,10 +33,13 @@ names-from start text (end ∷ ends) = slice text start end ∷ names-from end t
 abbrev pub names-of : List ℕ → List ℕ → List (List ℕ)
 names-of text ends = names-from 0 text ends
 
--- the names from start on end in order and inside the text, and each is UTF-8
+-- the name from start to end does not end before it begins, ends inside the text, and is UTF-8
+abbrev pub sound-name : List ℕ → ℕ → ℕ → Bool
+sound-name text start end = leb start end && (leb end (length text) && is-utf8 (slice text start end))
+
 abbrev pub sound-from : ℕ → List ℕ → List ℕ → Bool
 sound-from start text [] = true
-sound-from start text (end ∷ ends) = (leb start end && (leb end (length text) && is-utf8 (slice text start end))) && sound-from end text ends
+sound-from start text (end ∷ ends) = sound-name text start end && sound-from end text ends
 
 abbrev pub sound-names : List ℕ → List ℕ → Bool
 sound-names text ends = sound-from 0 text ends

@@ -7,7 +7,6 @@ ghost use Rattle.std.specs.Options.{Cases};
 ghost use Rattle.std.specs.Orderings.{When};
 ghost use Rattle.std.specs.Slices.{found};
 ghost use Rattle.text.specs.Naming.{Lies, Sound, slice, «name-start», «name-end», «names-of», «sound-names»};
-
 use crate::utf8::is_utf8;
 
 /// Names in one text. Each runs from the end before it (the first: from 0) to its own end.
@@ -58,7 +57,11 @@ impl<'a> Names<'a> {
         if index >= ends.len() {
             return None;
         }
-        let start = if index == 0 { 0 } else { ends[index - 1] as usize };
+        let start = if index == 0 {
+            0
+        } else {
+            ends[index - 1] as usize
+        };
         bytes_between(text, start, ends[index] as usize)
     }
 }

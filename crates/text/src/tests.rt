@@ -1,8 +1,17 @@
 // Examples and edges of every public call.
-use crate::blank::{is_blank, is_white_space};
+use crate::blank::is_blank;
+use crate::blank::is_white_space;
 use crate::names::Names;
-use crate::trim::{Part, PartDebug, PartPartialEq, trim, trimmed_part};
-use crate::utf8::{Decoded, DecodedDebug, DecodedPartialEq, first_char, is_utf8};
+use crate::trim::Part;
+use crate::trim::PartDebug;
+use crate::trim::PartPartialEq;
+use crate::trim::trim;
+use crate::trim::trimmed_part;
+use crate::utf8::Decoded;
+use crate::utf8::DecodedDebug;
+use crate::utf8::DecodedPartialEq;
+use crate::utf8::first_char;
+use crate::utf8::is_utf8;
 use std::test::*;
 
 // RFC 3629's examples, the first and the last character of each length, and no bytes.
@@ -57,10 +66,34 @@ fn no_character_begins_other_bytes() -> Result<(), Fail> {
 
 #[test]
 fn first_characters() -> Result<(), Fail> {
-    check_eq(first_char(b"RA"), Some(Decoded { character: 'R', len: 1 }))?;
-    check_eq(first_char(b"\xc2\x85 "), Some(Decoded { character: '\u{85}', len: 2 }))?;
-    check_eq(first_char(b"\xe2\x89\xa2\xff"), Some(Decoded { character: '\u{2262}', len: 3 }))?;
-    check_eq(first_char(b"\xf0\xa3\x8e\xb4\xf0"), Some(Decoded { character: '\u{233b4}', len: 4 }))?;
+    check_eq(
+        first_char(b"RA"),
+        Some(Decoded {
+            character: 'R',
+            len: 1,
+        }),
+    )?;
+    check_eq(
+        first_char(b"\xc2\x85 "),
+        Some(Decoded {
+            character: '\u{85}',
+            len: 2,
+        }),
+    )?;
+    check_eq(
+        first_char(b"\xe2\x89\xa2\xff"),
+        Some(Decoded {
+            character: '\u{2262}',
+            len: 3,
+        }),
+    )?;
+    check_eq(
+        first_char(b"\xf0\xa3\x8e\xb4\xf0"),
+        Some(Decoded {
+            character: '\u{233b4}',
+            len: 4,
+        }),
+    )?;
     check_eq(first_char(b""), None)
 }
 
@@ -68,11 +101,31 @@ fn first_characters() -> Result<(), Fail> {
 #[test]
 fn white_space_is_trimmed() -> Result<(), Fail> {
     let texts = [
-        "\u{9}a\u{9}", "\u{a}a\u{a}", "\u{b}a\u{b}", "\u{c}a\u{c}", "\u{d}a\u{d}",
-        "\u{20}a\u{20}", "\u{85}a\u{85}", "\u{a0}a\u{a0}", "\u{1680}a\u{1680}", "\u{2000}a\u{2000}",
-        "\u{2001}a\u{2001}", "\u{2002}a\u{2002}", "\u{2003}a\u{2003}", "\u{2004}a\u{2004}", "\u{2005}a\u{2005}",
-        "\u{2006}a\u{2006}", "\u{2007}a\u{2007}", "\u{2008}a\u{2008}", "\u{2009}a\u{2009}", "\u{200a}a\u{200a}",
-        "\u{2028}a\u{2028}", "\u{2029}a\u{2029}", "\u{202f}a\u{202f}", "\u{205f}a\u{205f}", "\u{3000}a\u{3000}",
+        "\u{9}a\u{9}",
+        "\u{a}a\u{a}",
+        "\u{b}a\u{b}",
+        "\u{c}a\u{c}",
+        "\u{d}a\u{d}",
+        "\u{20}a\u{20}",
+        "\u{85}a\u{85}",
+        "\u{a0}a\u{a0}",
+        "\u{1680}a\u{1680}",
+        "\u{2000}a\u{2000}",
+        "\u{2001}a\u{2001}",
+        "\u{2002}a\u{2002}",
+        "\u{2003}a\u{2003}",
+        "\u{2004}a\u{2004}",
+        "\u{2005}a\u{2005}",
+        "\u{2006}a\u{2006}",
+        "\u{2007}a\u{2007}",
+        "\u{2008}a\u{2008}",
+        "\u{2009}a\u{2009}",
+        "\u{200a}a\u{200a}",
+        "\u{2028}a\u{2028}",
+        "\u{2029}a\u{2029}",
+        "\u{202f}a\u{202f}",
+        "\u{205f}a\u{205f}",
+        "\u{3000}a\u{3000}",
     ];
     let letter: &[u8] = b"a";
     for text in texts {
@@ -82,7 +135,13 @@ fn white_space_is_trimmed() -> Result<(), Fail> {
         };
         check(is_white_space(first.character))?;
         check(is_blank(first.character))?;
-        check_eq(trimmed_part(bytes), Part { start: first.len, len: 1 })?;
+        check_eq(
+            trimmed_part(bytes),
+            Part {
+                start: first.len,
+                len: 1,
+            },
+        )?;
         check(trim(bytes) == letter)?;
     }
     Ok(())
@@ -92,8 +151,16 @@ fn white_space_is_trimmed() -> Result<(), Fail> {
 #[test]
 fn neighbours_of_white_space_stay() -> Result<(), Fail> {
     let texts = [
-        "\u{8}a\u{e}", "\u{1f}a\u{21}", "\u{84}a\u{86}", "\u{9f}a\u{a1}", "\u{167f}a\u{1681}",
-        "\u{1fff}a\u{200b}", "\u{2027}a\u{202a}", "\u{202e}a\u{2030}", "\u{205e}a\u{2060}", "\u{2fff}a\u{3001}",
+        "\u{8}a\u{e}",
+        "\u{1f}a\u{21}",
+        "\u{84}a\u{86}",
+        "\u{9f}a\u{a1}",
+        "\u{167f}a\u{1681}",
+        "\u{1fff}a\u{200b}",
+        "\u{2027}a\u{202a}",
+        "\u{202e}a\u{2030}",
+        "\u{205e}a\u{2060}",
+        "\u{2fff}a\u{3001}",
     ];
     for text in texts {
         let bytes = text.as_bytes();
@@ -151,7 +218,10 @@ fn sound_and_unsound_names() -> Result<(), Fail> {
 
 #[test]
 fn names_by_index() -> Result<(), Fail> {
-    let names = Names { text: b"RADec", ends: &[2, 5, 3, 6] };
+    let names = Names {
+        text: b"RADec",
+        ends: &[2, 5, 3, 6],
+    };
     let first: &[u8] = b"RA";
     let second: &[u8] = b"Dec";
     check_eq(names.get(0), Some(first))?;

@@ -4,7 +4,6 @@ ghost use mathlib.Core.List.{List};
 ghost use Prim.Native.Nat.{ℕ, _+_, _≤_};
 ghost use lib.ListN.{length, take, drop};
 ghost use Rattle.text.specs.Trimming.{trimmed, «trimmed-start», Trims, Leaves};
-
 use crate::blank::is_blank;
 use crate::utf8::first_char;
 
@@ -30,7 +29,10 @@ pub fn trimmed_part(bytes: &[u8]) -> Part
     let mut at = 0;
     while at < bytes.len() {
         let Some(first) = first_char(&bytes[at..]) else {
-            return Part { start: 0, len: bytes.len() };
+            return Part {
+                start: 0,
+                len: bytes.len(),
+            };
         };
         let next = at + first.len;
         if !is_blank(first.character) {
@@ -41,7 +43,10 @@ pub fn trimmed_part(bytes: &[u8]) -> Part
         }
         at = next;
     }
-    Part { start, len: end - start }
+    Part {
+        start,
+        len: end - start,
+    }
 }
 
 /// The bytes without the blank characters at both ends; as they are if they are not UTF-8.

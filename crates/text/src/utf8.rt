@@ -25,7 +25,10 @@ pub fn first_char(bytes: &[u8]) -> Option<Decoded>
     }
     let lead = bytes[0];
     if lead < 0x80 {
-        Some(Decoded { character: lead as char, len: 1 })
+        Some(Decoded {
+            character: lead as char,
+            len: 1,
+        })
     } else if lead >> 5 == 0b110 && bytes.len() >= 2 {
         two_bytes(lead, bytes[1])
     } else if lead >> 4 == 0b1110 && bytes.len() >= 3 {
@@ -59,7 +62,14 @@ fn two_bytes(lead: u8, second: u8) -> Option<Decoded>
 {
     let code = with_six_bits((lead & 0x1f) as u32, second);
     let sound = continues(second) & (code >= 0x80);
-    if sound { Some(Decoded { character: character_of(code), len: 2 }) } else { None }
+    if sound {
+        Some(Decoded {
+            character: character_of(code),
+            len: 2,
+        })
+    } else {
+        None
+    }
 }
 
 // A code point from 0x800 on that is no surrogate (0xd800 to 0xdfff).
@@ -69,7 +79,14 @@ fn three_bytes(lead: u8, second: u8, third: u8) -> Option<Decoded>
 {
     let code = with_six_bits(with_six_bits((lead & 0x0f) as u32, second), third);
     let sound = continues(second) & continues(third) & (code >= 0x800) & (code >> 11 != 0x1b);
-    if sound { Some(Decoded { character: character_of(code), len: 3 }) } else { None }
+    if sound {
+        Some(Decoded {
+            character: character_of(code),
+            len: 3,
+        })
+    } else {
+        None
+    }
 }
 
 // A code point from 0x1_0000 to 0x10_ffff.
@@ -79,8 +96,19 @@ fn four_bytes(lead: u8, second: u8, third: u8, fourth: u8) -> Option<Decoded>
 {
     let high = with_six_bits((lead & 0x07) as u32, second);
     let code = with_six_bits(with_six_bits(high, third), fourth);
-    let sound = continues(second) & continues(third) & continues(fourth) & (code >= 0x1_0000) & (code < 0x11_0000);
-    if sound { Some(Decoded { character: character_of(code), len: 4 }) } else { None }
+    let sound = continues(second)
+        & continues(third)
+        & continues(fourth)
+        & (code >= 0x1_0000)
+        & (code < 0x11_0000);
+    if sound {
+        Some(Decoded {
+            character: character_of(code),
+            len: 4,
+        })
+    } else {
+        None
+    }
 }
 
 // Is this a continuation byte, 10xx_xxxx?

@@ -11,10 +11,10 @@ returns c =
     let index = c .args .index in
     let start = c .if-index-eq0 .start in
     let starts : start ≡ name-start ends index =
-        elim (c .if-index-eq0 .came) [
-          | then-index-eq0 w ↦ w .start-is ∙ sym (name-start-first ends index (w .if-index-eq0 .taken))
-          | else-index-eq0 w ↦ w .start-is ∙ sym (name-start-later ends index (w .if-index-eq0 .left))
-        ] in
+    elim (c .if-index-eq0 .came) [
+      | then-index-eq0 w ↦ w .start-is ∙ sym (name-start-first ends index (w .if-index-eq0 .taken))
+      | else-index-eq0 w ↦ w .start-is ∙ sym (name-start-later ends index (w .if-index-eq0 .left))
+    ] in
     let listed = c .if-index-ends .left in
     let r = c .bytes-between .result in
     let bytes = name-bytes text ends index start starts r (c .bytes-between .ensures .bytes) in
