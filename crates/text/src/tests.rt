@@ -64,36 +64,18 @@ fn no_character_begins_other_bytes() -> Result<(), Fail> {
     Ok(())
 }
 
+// One to four bytes, with more behind them, and nothing.
 #[test]
 fn first_characters() -> Result<(), Fail> {
-    check_eq(
-        first_char(b"RA"),
-        Some(Decoded {
-            character: 'R',
-            len: 1,
-        }),
-    )?;
-    check_eq(
-        first_char(b"\xc2\x85 "),
-        Some(Decoded {
-            character: '\u{85}',
-            len: 2,
-        }),
-    )?;
-    check_eq(
-        first_char(b"\xe2\x89\xa2\xff"),
-        Some(Decoded {
-            character: '\u{2262}',
-            len: 3,
-        }),
-    )?;
-    check_eq(
-        first_char(b"\xf0\xa3\x8e\xb4\xf0"),
-        Some(Decoded {
-            character: '\u{233b4}',
-            len: 4,
-        }),
-    )?;
+    let cases: [(&[u8], char, usize); 4] = [
+        (b"RA", 'R', 1),
+        (b"\xc2\x85 ", '\u{85}', 2),
+        (b"\xe2\x89\xa2\xff", '\u{2262}', 3),
+        (b"\xf0\xa3\x8e\xb4\xf0", '\u{233b4}', 4),
+    ];
+    for (bytes, character, len) in cases {
+        check_eq(first_char(bytes), Some(Decoded { character, len }))?;
+    }
     check_eq(first_char(b""), None)
 }
 
