@@ -11,12 +11,12 @@ use crate::utf8::is_utf8;
 
 /// Names in one text. Each runs from the end before it (the first: from 0) to its own end.
 #[derive(Clone, Copy)]
-pub struct Names<'a> {
-    pub text: &'a [u8],
-    pub ends: &'a [u32],
+pub struct Names<'text, 'ends> {
+    pub text: &'text [u8],
+    pub ends: &'ends [u32],
 }
 
-impl<'a> Names<'a> {
+impl<'text> Names<'text, '_> {
     /// Do the ends never fall and stay inside the text, and is every name by itself UTF-8?
     pub fn is_sound(&self) -> bool
         ensures is { λ r. ⌜ r ≡ «sound-names» (now (now (self .entry) .text)) (now (now (self .entry) .ends)) ⌝ }
@@ -47,7 +47,7 @@ impl<'a> Names<'a> {
     }
 
     /// The name at an index, counted from 0: none past the last name, and where the name's end lies before its start or past the text.
-    pub fn get(&self, index: usize) -> Option<&'a [u8]>
+    pub fn get(&self, index: usize) -> Option<&'text [u8]>
         ensures lies { λ r. ⌜ Cases r (Lies (now (now (self .entry) .text)) (now (now (self .entry) .ends)) index → ⊥) (λ _. Lies (now (now (self .entry) .text)) (now (now (self .entry) .ends)) index) ⌝ }
         ensures bytes { λ r. ⌜ found r (λ name. now name ≡ slice (now (now (self .entry) .text)) («name-start» (now (now (self .entry) .ends)) index) («name-end» (now (now (self .entry) .ends)) index)) ⌝ }
         ensures listed { λ r. ⌜ found r (λ name. now name ≡ getD («names-of» (now (now (self .entry) .text)) (now (now (self .entry) .ends))) index []) ⌝ }
