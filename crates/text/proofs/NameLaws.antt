@@ -48,16 +48,19 @@ name-start-later ends (suc k) n = ap (λ (j : ℕ). getD ends j 0) (omega arith)
 
 -- ---- one name, from what the bytes between its start and its end are
 module _ (text ends : List ℕ) (k start : ℕ) where
+  -- whether it lies in the text
   pub name-lies : k < length ends → start ≡ name-start ends k → (r : Option (RefT (List ℕ)))
       → Cases r ((start ≤ name-end ends k) × (name-end ends k ≤ length text) → ⊥) (λ _. (start ≤ name-end ends k) × (name-end ends k ≤ length text))
       → Cases r (Lies text ends k → ⊥) (λ _. Lies text ends k)
   name-lies h e None n = λ l. n (omega arith, l .2)
   name-lies h e (Some x) l = (h, omega arith, l .1)
 
+  -- which bytes it has
   pub name-bytes : start ≡ name-start ends k → (r : Option (RefT (List ℕ))) → found r (λ x. x .now ≡ slice text start (name-end ends k)) → found r (λ x. x .now ≡ slice text (name-start ends k) (name-end ends k))
   name-bytes e None f = tt
   name-bytes e (Some x) f = f ∙ ap (λ (j : ℕ). slice text j (name-end ends k)) e
 
+-- the bytes of a name are those in the list of names
 pub name-listed : (text ends : List ℕ) (k : ℕ) → k < length ends → (r : Option (RefT (List ℕ))) → found r (λ x. x .now ≡ slice text (name-start ends k) (name-end ends k)) → found r (λ x. x .now ≡ getD (names-of text ends) k [])
 name-listed text ends k h None f = tt
 name-listed text ends k h (Some x) f = f ∙ sym (names-get text ends k h)
@@ -69,6 +72,7 @@ abbrev Fine : List ℕ → ℕ → ℕ → Type 0
 Fine text start end = (start ≤ end) × (end ≤ length text) × Utf8 (slice text start end)
 
 module _ (text : List ℕ) (start end : ℕ) where
+  -- what the test says of one name, both ways
   fine-yes : Fine text start end → sound-name text start end ≡ true
   fine-yes f =
       and-from (leb start end) (leb end (length text) && is-utf8 (slice text start end)) (le-leb start end (f .0))
@@ -80,12 +84,14 @@ module _ (text : List ℕ) (start end : ℕ) where
       let b = and-parts (leb end (length text)) (is-utf8 (slice text start end)) (a .1) in
       (leb-true start end (a .0), leb-true end (length text) (b .0), is-utf8-decides (slice text start end) .0 (b .1))
 
+-- from the test to each name ..
 sound-from-all : (start : ℕ) (text ends : List ℕ) → sound-from start text ends ≡ true → (k : ℕ) → k < length ends → Fine text (getD (start ∷ ends) k 0) (getD ends k 0)
 sound-from-all start text [] s k h = absurd (omega arith)
 sound-from-all start text (e ∷ ends) s zero h = fine-from text start e (and-parts (sound-name text start e) (sound-from e text ends) s .0)
 sound-from-all start text (e ∷ ends) s (suc k) h =
     sound-from-all e text ends (and-parts (sound-name text start e) (sound-from e text ends) s .1) k (omega arith)
 
+-- .. and back
 all-sound-from : (start : ℕ) (text ends : List ℕ) → ((k : ℕ) → k < length ends → Fine text (getD (start ∷ ends) k 0) (getD ends k 0)) → sound-from start text ends ≡ true
 all-sound-from start text [] f = refl
 all-sound-from start text (e ∷ ends) f =
@@ -98,15 +104,18 @@ sound-decides text ends = (
   λ w. all-sound-from 0 text ends (λ k h. let l = w k h in (l .0 .1, l .0 .2, l .1)),
 )
 
+-- the same by the test's answer
 pub sound-when : (text ends : List ℕ) (b : Bool) → b ≡ sound-names text ends → When b (Sound text ends) (Sound text ends → ⊥)
 sound-when text ends true e = sound-decides text ends .0 (sym e)
 sound-when text ends false e = not-from-decides (sound-names text ends) (sound-decides text ends) (sym e)
 
 -- ---- a walk over the ends: one name on
 module _ (text ends : List ℕ) (start k : ℕ) (lt : k < length ends) where
+  -- the next name, and those after it
   sound-split : sound-from start text (drop k ends) ≡ (sound-name text start (getD ends k 0) && sound-from (getD ends k 0) text (drop (k + 1) ends))
   sound-split = at-drop-more (sound-from start text) ends k 0 lt
 
+  -- a name that is not sound
   stops : (Fine text start (getD ends k 0) → ⊥) → sound-from start text (drop k ends) ≡ false
   stops n =
       elim (cases-bool (sound-from start text (drop k ends))) [

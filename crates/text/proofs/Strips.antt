@@ -19,6 +19,7 @@ abbrev pub NoBlankFirst : List ℕ → Type 0
 NoBlankFirst [] = Unit {0}
 NoBlankFirst (c ∷ cs) = blank c ≡ false
 
+-- blank from behind as from the front
 pub all-blank-reverse : (cs : List ℕ) → AllBlank cs → AllBlank (reverse cs)
 all-blank-reverse [] h = tt
 all-blank-reverse (c ∷ cs) h = subst AllBlank (sym (reverse-cons c cs)) (all-push (λ d. blank d ≡ true) (reverse cs) c (all-blank-reverse cs (h .1)) (h .0))
@@ -37,6 +38,7 @@ past-blanks-join (f ∷ fs) cs h = cond-true (blank f) (past-blanks (fs ++ cs)) 
 pub past-blanks-none : (fs : List ℕ) → AllBlank fs → past-blanks fs ≡ []
 past-blanks-none fs h = ap past-blanks (sym (append-nil fs)) ∙ past-blanks-join fs [] h
 
+-- where the first is not blank, all stay
 pub past-blanks-same : (cs : List ℕ) → NoBlankFirst cs → past-blanks cs ≡ cs
 past-blanks-same [] h = refl
 past-blanks-same (c ∷ cs) h = cond-false (blank c) (past-blanks cs) (c ∷ cs) h

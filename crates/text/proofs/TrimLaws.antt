@@ -21,6 +21,7 @@ use Rattle.text.proofs.Whole.{is-utf8-yes, is-utf8-no, utf8-cases}
 
 -- ---- lists of characters and their bytes
 
+-- scalar values, one list after another
 pub scalars-join : (xs ys : List ℕ) → scalars xs ≡ true → scalars ys ≡ true → scalars (xs ++ ys) ≡ true
 scalars-join [] ys p q = q
 scalars-join (x ∷ xs) ys p q = let h = and-parts (scalar x) (scalars xs) p in and-from (scalar x) (scalars (xs ++ ys)) (h .0) (scalars-join xs ys (h .1) q)
@@ -42,13 +43,16 @@ encodes-push cs c = encodes-append cs (c ∷ []) ∙ ap (λ (l : List ℕ). enco
 
 -- ---- neither begins nor ends with a blank character: bytes and characters
 
+-- a character that is not found to be blank is not
 not-blank : (c : ℕ) → (blank c ≡ true → ⊥) → blank c ≡ false
 not-blank c n = elim (cases-bool (blank c)) [ inl e ↦ absurd (n e) | inr e ↦ e ]
 
+-- bytes that no blank character begins: the first of their characters is not blank
 begins-no-blank : (rs : List ℕ) → scalars rs ≡ true → Bare (encodes rs) → NoBlankFirst rs
 begins-no-blank [] s b = tt
 begins-no-blank (c ∷ cs) s b = not-blank c (λ e. b c (encodes cs) (and-parts (scalar c) (scalars cs) s .0) e .0 refl)
 
+-- bytes that no blank character ends: the last of their characters is not blank
 ends-no-blank : (xs rs : List ℕ) → rs ≡ reverse xs → scalars rs ≡ true → Bare (encodes rs) → NoBlankFirst xs
 ends-no-blank [] rs q s b = tt
 ends-no-blank (x ∷ xs) rs q s b =
@@ -56,12 +60,15 @@ ends-no-blank (x ∷ xs) rs q s b =
     let sx = scalars-parts (reverse xs) (x ∷ []) (subst (λ (l : List ℕ). scalars l ≡ true) w s) .1 in
     not-blank x (λ e. b x (encodes (reverse xs)) (and-parts (scalar x) true sx .0) e .1 (ap encodes w ∙ encodes-push (reverse xs) x))
 
+-- bytes that neither begin nor end with a blank character, in characters ..
 pub bare-characters : (rs : List ℕ) → scalars rs ≡ true → Bare (encodes rs) → NoBlankFirst rs × NoBlankFirst (reverse rs)
 bare-characters rs s b = (begins-no-blank rs s b, ends-no-blank (reverse rs) rs (sym (reverse-reverse rs)) s b)
 
+-- a list that begins with c: where its first is not blank, c is not
 not-first : (c : ℕ) (cs rs : List ℕ) → rs ≡ c ∷ cs → NoBlankFirst rs → blank c ≡ true → ⊥
 not-first c cs rs q d e = both-ways (blank c) (subst NoBlankFirst q d) e
 
+-- .. and back
 pub characters-bare : (rs : List ℕ) → scalars rs ≡ true → NoBlankFirst rs → NoBlankFirst (reverse rs) → Bare (encodes rs)
 characters-bare rs s d e c rest sc bl = (
   (λ q. let r = cons-from-encodes rs rest c q in not-first c (r .0) rs (r .1) d bl),
@@ -84,9 +91,11 @@ pub record Parted (bs fs ms gs : List ℕ) : Type 0 where
   pub begins : NoBlankFirst ms
   pub ends : NoBlankFirst (reverse ms)
 
+-- together they are a text
 pub parted-utf8 : (bs fs ms gs : List ℕ) → Parted bs fs ms gs → Utf8 bs
 parted-utf8 bs fs ms gs p = (fs ++ (ms ++ gs), (p .all, p .is))
 
+-- the middle one is what trimming leaves
 pub parted-trims : (bs fs ms gs : List ℕ) → Parted bs fs ms gs → Trims bs (encodes ms)
 parted-trims bs fs ms gs p =
     let s = scalars-parts fs (ms ++ gs) (p .all) in
@@ -162,9 +171,11 @@ trims-only bs x t =
 
 -- ---- laws for callers
 
+-- of a text a text is left
 pub trimmed-utf8 : (bs : List ℕ) → Utf8 bs → Utf8 (trimmed bs)
 trimmed-utf8 bs u = trimmed-trims bs .text u .4
 
+-- trimming adds nothing
 pub trimmed-length : (bs : List ℕ) → length (trimmed bs) ≤ length bs
 trimmed-length bs =
     elim (utf8-cases bs) [
@@ -191,6 +202,7 @@ trimmed-ra = refl
 
 -- ---- where what is left lies
 
+-- bytes that are not UTF-8 stay from their start on
 pub trimmed-start-other : (bs : List ℕ) → (Utf8 bs → ⊥) → trimmed-start bs ≡ 0
 unfolding trimmed-start
 trimmed-start-other bs n = cond-false (is-utf8 bs) (in-front (length bs) (past-blanks (decodes bs))) 0 (is-utf8-no bs n)

@@ -30,9 +30,11 @@ pub record SoFar (bs : List ℕ) (at start end : ℕ) : Type 0 where
   pub stops : end ≡ length (encodes fs) + length (encodes ms)
   pub nothing : length ms ≡ 0 → length fs ≡ 0
 
+-- before the first character
 pub so-far-none : (bs : List ℕ) → SoFar bs 0 0 0
 so-far-none bs = record { fs = []; ms = []; gs = []; parted = record { all = refl; is = refl; front = tt; back = tt; begins = tt; ends = tt }; within = omega arith; starts = refl; stops = refl; nothing = λ _. refl }
 
+-- no bytes, no characters
 no-bytes-none : (cs : List ℕ) → length (encodes cs) ≡ 0 → length cs ≡ 0
 no-bytes-none cs h = omega (arith, length-le-encodes cs)
 
@@ -44,6 +46,7 @@ module _ (bs : List ℕ) (i c n : ℕ) (b : Begins (drop i bs) c n) where
       take-add i n bs
       ∙ ap (λ (l : List ℕ). take i bs ++ l) (ap (take n) (b .2) ∙ ap (λ (k : ℕ). take k (encode c ++ drop n (drop i bs))) (b .1) ∙ take-front (encode c) (drop n (drop i bs)))
 
+  -- the character lies inside the bytes
   inside : i ≤ length bs → i + n ≤ length bs
   inside h = omega (arith, b .1, ap length (b .2), length-append (encode c) (drop n (drop i bs)), length-drop i bs)
 
@@ -55,6 +58,7 @@ module _ (bs : List ℕ) (i c n : ℕ) (b : Begins (drop i bs) c n) where
   )
 
   module _ (start end : ℕ) (f : SoFar bs i start end) where
+    -- a blank character
     pub so-far-blank : blank c ≡ true → SoFar bs (i + n) start end
     so-far-blank h =
         let q : f .fs ++ (f .ms ++ (f .gs ++ c ∷ [])) ≡ (f .fs ++ (f .ms ++ f .gs)) ++ c ∷ [] = simp append-assoc in
@@ -124,6 +128,7 @@ module _ (bs : List ℕ) (i c n : ℕ) (b : Begins (drop i bs) c n) where
 
 -- ---- the end of the walk
 
+-- every byte was walked over
 pub so-far-end : (bs : List ℕ) (at start end : ℕ) → length bs ≤ at → SoFar bs at start end → (start ≤ end) × Leaves bs start (end - start)
 so-far-end bs at start end h f =
     let P : Parted bs (f .fs) (f .ms) (f .gs) = subst (λ (l : List ℕ). Parted l (f .fs) (f .ms) (f .gs)) (take-all at bs h) (f .parted) in
@@ -187,6 +192,7 @@ leaves-is bs start len v =
           | inr n ↦ omega (arith, trimmed-start-other bs n, v .inside, ap length (v .part .other n))
         ]
 
+-- two such parts are the same
 pub leaves-only : (bs : List ℕ) (start len : ℕ) → Leaves bs start len → (s n : ℕ) → Leaves bs s n → (s ≡ start) × (n ≡ len)
 leaves-only bs start len v s n w =
     let a = leaves-is bs start len v in

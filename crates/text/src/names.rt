@@ -25,8 +25,8 @@ impl<'text> Names<'text, '_> {
         let text = self.text;
         let ends = self.ends;
         let mut start = 0;
-        for k in 0..ends.len() {
-            let end = ends[k] as usize;
+        for next in ends {
+            let end = *next as usize;
             let Some(name) = bytes_between(text, start, end) else {
                 return false;
             };

@@ -20,23 +20,17 @@ pub struct Decoded {
 pub fn first_char(bytes: &[u8]) -> Option<Decoded>
     ensures { λ r. ⌜ FirstCharacter (now (bytes .entry)) r ⌝ }
 {
-    if bytes.len() == 0 {
-        return None;
-    }
-    let lead = bytes[0];
-    if lead < 0x80 {
-        Some(Decoded {
-            character: lead as char,
+    match bytes {
+        [lead, ..] if *lead < 0x80 => Some(Decoded {
+            character: *lead as char,
             len: 1,
-        })
-    } else if lead >> 5 == 0b110 && bytes.len() >= 2 {
-        two_bytes(lead, bytes[1])
-    } else if lead >> 4 == 0b1110 && bytes.len() >= 3 {
-        three_bytes(lead, bytes[1], bytes[2])
-    } else if lead >> 3 == 0b1_1110 && bytes.len() >= 4 {
-        four_bytes(lead, bytes[1], bytes[2], bytes[3])
-    } else {
-        None
+        }),
+        [lead, second, ..] if *lead >> 5 == 0b110 => two_bytes(*lead, *second),
+        [lead, second, third, ..] if *lead >> 4 == 0b1110 => three_bytes(*lead, *second, *third),
+        [lead, second, third, fourth, ..] if *lead >> 3 == 0b1_1110 => {
+            four_bytes(*lead, *second, *third, *fourth)
+        }
+        _ => None,
     }
 }
 

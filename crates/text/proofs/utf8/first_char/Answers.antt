@@ -1,7 +1,7 @@
 use mathlib.Core.Path.{_≡_, sym, ap, _∙_, subst}
 use mathlib.Core.List.{List, _∷_}
-use mathlib.Core.Logic.{inl, inr}
 use Prim.Native.Nat.{ℕ, _≤_}
+use borrow.Author.Tests.{ltb-true, ltb-false}
 use native.Mathlib.Omega.{arith}
 use lib.ListN.{length, getD, drop}
 use lib.Seq.{drop-cons}
@@ -22,26 +22,45 @@ cons-3 bs h = cons-2 bs (omega arith) ∙ ap (λ (l : List ℕ). getD bs 0 0 ∷
 cons-4 : (bs : List ℕ) → 4 ≤ length bs → bs ≡ getD bs 0 0 ∷ getD bs 1 0 ∷ getD bs 2 0 ∷ getD bs 3 0 ∷ drop 4 bs
 cons-4 bs h = cons-3 bs (omega arith) ∙ ap (λ (l : List ℕ). getD bs 0 0 ∷ getD bs 1 0 ∷ getD bs 2 0 ∷ l) (drop-cons bs 3 0 h)
 
-pub returns-then-bytes-eq0 : need.returns-then-bytes-eq0
-returns-then-bytes-eq0 c = no-bytes (c .args .bytes .now) (c .if-bytes-eq0 .taken)
+-- ---- the lead byte's arm
 
-pub returns-then-lead-lt128 : need.returns-then-lead-lt128
-returns-then-lead-lt128 c =
+pub returns-in-len1-up : need.returns-in-len1-up
+returns-in-len1-up c =
     let bs = c .args .bytes .now in
-    subst (λ (l : List ℕ). Begins l (getD bs 0 0) 1) (sym (cons-1 bs (omega arith))) (begins-1 (getD bs 0 0) (drop 1 bs) (c .if-lead-lt128 .taken))
+    let some : 1 ≤ length bs = omega (arith, ltb-false) in
+    subst (λ (l : List ℕ). Begins l (getD bs 0 0) 1) (sym (cons-1 bs some)) (begins-1 (getD bs 0 0) (drop 1 bs) (c .if-lead-lt128 .taken))
 
-pub returns-then-bytes-ge2 : need.returns-then-bytes-ge2
-returns-then-bytes-ge2 c = let bs = c .args .bytes .now in subst (λ (l : List ℕ). FirstCharacter l (c .two-bytes .result)) (sym (cons-2 bs (c .if-bytes-ge2 .taken))) (c .two-bytes .ensures (drop 2 bs))
+pub returns-in-len2-up : need.returns-in-len2-up
+returns-in-len2-up c =
+    let bs = c .args .bytes .now in
+    let some : 2 ≤ length bs = omega (arith, ltb-false) in
+    subst (λ (l : List ℕ). FirstCharacter l (c .two-bytes .result)) (sym (cons-2 bs some)) (c .two-bytes .ensures (drop 2 bs))
 
-pub returns-then-bytes-ge3 : need.returns-then-bytes-ge3
-returns-then-bytes-ge3 c = let bs = c .args .bytes .now in subst (λ (l : List ℕ). FirstCharacter l (c .three-bytes .result)) (sym (cons-3 bs (c .if-bytes-ge3 .taken))) (c .three-bytes .ensures (drop 3 bs))
+pub returns-in-len3-up : need.returns-in-len3-up
+returns-in-len3-up c =
+    let bs = c .args .bytes .now in
+    let some : 3 ≤ length bs = omega (arith, ltb-false) in
+    subst (λ (l : List ℕ). FirstCharacter l (c .three-bytes .result)) (sym (cons-3 bs some)) (c .three-bytes .ensures (drop 3 bs))
 
-pub returns-then-bytes-ge4 : need.returns-then-bytes-ge4
-returns-then-bytes-ge4 c = let bs = c .args .bytes .now in subst (λ (l : List ℕ). FirstCharacter l (c .four-bytes .result)) (sym (cons-4 bs (c .if-bytes-ge4 .taken))) (c .four-bytes .ensures (drop 4 bs))
+pub returns-in-len4-up : need.returns-in-len4-up
+returns-in-len4-up c =
+    let bs = c .args .bytes .now in
+    let some : 4 ≤ length bs = omega (arith, ltb-false) in
+    subst (λ (l : List ℕ). FirstCharacter l (c .four-bytes .result)) (sym (cons-4 bs some)) (c .four-bytes .ensures (drop 4 bs))
 
-pub returns-else-lead-eq30 : need.returns-else-lead-eq30
-returns-else-lead-eq30 c =
-    no-lead (c .args .bytes .now) (c .if-lead-lt128 .left)
-    (λ p q. elim (c .else-lead-eq6 .either) [ inl a ↦ omega arith | inr a ↦ a p ])
-    (λ p q. elim (c .else-lead-eq14 .either) [ inl a ↦ omega arith | inr a ↦ a p ])
-    (λ p q. elim (c .else-lead-eq30 .either) [ inl a ↦ omega arith | inr a ↦ a p ])
+-- ---- no arm: there are no bytes, or one, two, three, four and more, and the lead byte asks for more or is none
+
+pub returns-in-rest : need.returns-in-rest
+returns-in-rest c = no-bytes (c .args .bytes .now) (omega (arith, ltb-true))
+
+pub returns-in-rest·2 : need.returns-in-rest·2
+returns-in-rest·2 c = no-lead (c .args .bytes .now) (c .if-lead-lt128 .left) (λ p q. omega (arith, ltb-true)) (λ p q. omega (arith, ltb-true)) (λ p q. omega (arith, ltb-true))
+
+pub returns-in-rest·3 : need.returns-in-rest·3
+returns-in-rest·3 c = no-lead (c .args .bytes .now) (c .if-lead-lt128 .left) (λ p q. c .if-lead-eq6 .left p) (λ p q. omega (arith, ltb-true)) (λ p q. omega (arith, ltb-true))
+
+pub returns-in-rest·4 : need.returns-in-rest·4
+returns-in-rest·4 c = no-lead (c .args .bytes .now) (c .if-lead-lt128 .left) (λ p q. c .if-lead-eq6 .left p) (λ p q. c .if-lead-eq14 .left p) (λ p q. omega (arith, ltb-true))
+
+pub returns-in-rest·5 : need.returns-in-rest·5
+returns-in-rest·5 c = no-lead (c .args .bytes .now) (c .if-lead-lt128 .left) (λ p q. c .if-lead-eq6 .left p) (λ p q. c .if-lead-eq14 .left p) (λ p q. c .if-lead-eq30 .left p)
