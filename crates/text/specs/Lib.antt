@@ -1,0 +1,4 @@
+pub mod Encoding
+pub mod WhiteSpace
+pub mod Trimming
+pub mod Naming
