@@ -1,20 +1,20 @@
 // The eight errors that a cell may hold, in the order in which a sheet file numbers them.
 #[derive(Clone, Copy, PartialEq, Eq, Debug)]
 pub enum CellErrorType {
-    // division by zero
+    /// division by zero
     Div0,
-    // unavailable value
+    /// unavailable value
     NA,
-    // invalid name
+    /// invalid name
     Name,
-    // null value
+    /// null value
     Null,
-    // number error
+    /// number error
     Num,
-    // invalid cell reference
+    /// invalid cell reference
     Ref,
-    // value error
+    /// value error
     Value,
-    // data still being fetched
+    /// data still being fetched
     GettingData,
 }

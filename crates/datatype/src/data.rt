@@ -6,7 +6,7 @@ use crate::excel_date_time::ExcelDateTime;
 use crate::excel_date_time::ExcelDateTimeDebug;
 use crate::excel_date_time::ExcelDateTimePartialEq;
 
-// A part of the sheet's text: its place, and how many bytes it has.
+/// A part of the sheet's text: its place, and how many bytes it has.
 #[derive(Clone, Copy, PartialEq, Eq, Debug)]
 pub struct TextPart {
     pub place: u32,
@@ -16,7 +16,7 @@ pub struct TextPart {
 #[derive(Clone, Copy, PartialEq, Eq, Debug)]
 pub enum Data {
     Int(i64),
-    // the 64 bits of a binary64 float
+    /// the 64 bits of a binary64 float
     Float(u64),
     String(TextPart),
     Bool(bool),

@@ -6,7 +6,7 @@ ghost use Rattle.std.specs.Options.{mapped};
 ghost use Rattle.range.specs.Sheets.{sheet, «cell-at», «value-at», «row-at»};
 use crate::sheet::Range;
 
-// The place of a cell among cells that stand row after row.
+/// The place of a cell among cells that stand row after row.
 fn place(row: usize, column: usize, rows: usize, width: usize) -> usize
     requires below { ⌜ row < rows ⌝ }
     requires across { ⌜ column < width ⌝ }
@@ -17,7 +17,7 @@ fn place(row: usize, column: usize, rows: usize, width: usize) -> usize
     row * width + column
 }
 
-// So many items from a place on.
+/// So many items from a place on.
 fn part<T>(items: &[T], from: usize, len: usize) -> &[T]
     requires { ⌜ from + len ≤ length (now items) ⌝ }
     ensures { λ r. ⌜ now r ≡ take len (drop from (now (items .entry))) ⌝ }
@@ -28,7 +28,7 @@ fn part<T>(items: &[T], from: usize, len: usize) -> &[T]
 }
 
 impl<'a, T> Range<'a, T> {
-    // The cell of a row and a column, both counted from the sheet's first; none outside the sheet.
+    /// The cell of a row and a column, both counted from the sheet's first; none outside the sheet.
     pub fn get(&self, relative_position: (usize, usize)) -> Option<&'a T>
         ensures { λ r. ⌜ mapped now r ≡ «cell-at» (sheet (now (self .entry))) («relative_position» .0) («relative_position» .1) ⌝ }
     {
@@ -41,7 +41,7 @@ impl<'a, T> Range<'a, T> {
         Some(&self.cells[at])
     }
 
-    // The cell of a row and a column by the sheet's own numbers, counted from row 0 and column 0; none outside the sheet.
+    /// The cell of a row and a column by the sheet's own numbers, counted from row 0 and column 0; none outside the sheet.
     pub fn get_value(&self, absolute_position: (u32, u32)) -> Option<&'a T>
         ensures { λ r. ⌜ mapped now r ≡ «value-at» (sheet (now (self .entry))) («absolute_position» .0) («absolute_position» .1) ⌝ }
     {
@@ -61,7 +61,7 @@ impl<'a, T> Range<'a, T> {
         ))
     }
 
-    // A whole row, counted from the sheet's first; none past the last.
+    /// A whole row, counted from the sheet's first; none past the last.
     pub fn row(&self, index: usize) -> Option<&'a [T]>
         ensures { λ r. ⌜ mapped now r ≡ «row-at» (sheet (now (self .entry))) index ⌝ }
     {

@@ -4,10 +4,10 @@ ghost use lib.ListN.{length};
 
 #[derive(Drop)]
 pub struct Cells<'a, T> {
-    // row after row
+    /// row after row
     pub(crate) cells: &'a [T],
     pub(crate) width: usize,
-    // the place in the sheet of the first of the cells
+    /// the place in the sheet of the first of the cells
     pub(crate) place: usize,
     ghost wide: { 0 < length (cells .now) → 0 < width },
     ghost within: { place + length (cells .now) < 2 ^ 64 },

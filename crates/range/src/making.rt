@@ -16,7 +16,7 @@ use crate::fault::RangeFault;
 use crate::sheet::Range;
 
 impl RangeFault {
-    // The number of the refusal.
+    /// The number of the refusal.
     pub fn number(&self) -> u8
         ensures { λ r. ⌜ r ≡ told (now (self .entry)) .number ⌝ }
     {
@@ -29,7 +29,7 @@ impl RangeFault {
     }
 }
 
-// How many there are from the first to the last.
+/// How many there are from the first to the last.
 pub(crate) fn span(first: u32, last: u32) -> usize
     requires ordered { ⌜ first ≤ last ⌝ }
     ensures { λ r. ⌜ r ≡ span first last ⌝ }
@@ -37,7 +37,7 @@ pub(crate) fn span(first: u32, last: u32) -> usize
     (last - first) as usize + 1
 }
 
-// The questions put to corners alone: each axis runs forwards, and both end within the limits of a sheet.
+/// The questions put to corners alone: each axis runs forwards, and both end within the limits of a sheet.
 fn ask_corners(corners: Corners) -> Result<(), RangeFault>
     ensures { λ r. ⌜ «refusal-of» told r ≡ «first-no» («corner-questions» corners []) ⌝ }
 {
@@ -56,8 +56,18 @@ fn ask_corners(corners: Corners) -> Result<(), RangeFault>
     Ok(())
 }
 
+/// Rows times columns, the true product, within the limits of a sheet.
+fn times(rows: usize, columns: usize) -> usize
+    requires tall { ⌜ rows ≤ 1048576 ⌝ }
+    requires wide { ⌜ columns ≤ 16384 ⌝ }
+    ensures is { λ r. ⌜ r ≡ rows * columns ⌝ }
+    ensures bound { λ r. ⌜ r ≤ 2 ^ 34 ⌝ }
+{
+    rows * columns
+}
+
 impl Corners {
-    // How many cells a sheet of these corners has: rows times columns, the true product, at most 2^34.
+    /// How many cells a sheet of these corners has: rows times columns, the true product, at most 2^34.
     pub fn cell_count(&self) -> Result<usize, RangeFault>
         ensures answers { λ r. ⌜ «refusal-of» told r ≡ «first-no» («corner-questions» (now (self .entry)) []) ⌝ }
         ensures count { λ r. ⌜ made r (λ n. n ≡ «rows-of» (now (self .entry)) * «columns-of» (now (self .entry))) ⌝ }
@@ -66,12 +76,12 @@ impl Corners {
         ask_corners(*self)?;
         let rows = span(self.first_row, self.last_row);
         let columns = span(self.first_column, self.last_column);
-        Ok(rows * columns)
+        Ok(times(rows, columns))
     }
 }
 
 impl<'a, T> Range<'a, T> {
-    // The sheet without rows, columns or text.
+    /// The sheet without rows, columns or text.
     pub fn empty() -> Range<'a, T>
         ensures { λ r. ⌜ sheet r ≡ «empty-sheet» ⌝ }
     {
@@ -82,7 +92,7 @@ impl<'a, T> Range<'a, T> {
         }
     }
 
-    // Makes this the sheet of these corners, cells and text; a refusal leaves it as it was.
+    /// Makes this the sheet of these corners, cells and text; a refusal leaves it as it was.
     pub fn make(
         &mut self,
         corners: Corners,

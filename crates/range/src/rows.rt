@@ -5,10 +5,10 @@ ghost use lib.ListN.{length};
 
 #[derive(Drop)]
 pub struct Rows<'a, T> {
-    // row after row
+    /// row after row
     pub(crate) cells: &'a [T],
     pub(crate) width: usize,
-    // how many rows the cells make
+    /// how many rows the cells make
     pub(crate) left: usize,
     ghost whole: { length (cells .now) ≡ left * width },
 }

@@ -6,7 +6,7 @@ use crate::making::span;
 use crate::sheet::Range;
 
 impl<'a, T> Range<'a, T> {
-    // The first row and column; none for the empty sheet.
+    /// The first row and column; none for the empty sheet.
     pub fn start(&self) -> Option<(u32, u32)>
         ensures { λ r. ⌜ r ≡ mapped (λ k. (k .«first_row», k .«first_column»)) (sheet (now (self .entry)) .corners) ⌝ }
     {
@@ -16,7 +16,7 @@ impl<'a, T> Range<'a, T> {
         }
     }
 
-    // The last row and column; none for the empty sheet.
+    /// The last row and column; none for the empty sheet.
     pub fn end(&self) -> Option<(u32, u32)>
         ensures { λ r. ⌜ r ≡ mapped (λ k. (k .«last_row», k .«last_column»)) (sheet (now (self .entry)) .corners) ⌝ }
     {
@@ -26,7 +26,7 @@ impl<'a, T> Range<'a, T> {
         }
     }
 
-    // How many columns there are.
+    /// How many columns there are.
     pub fn width(&self) -> usize
         ensures { λ r. ⌜ r ≡ width (sheet (now (self .entry))) ⌝ }
     {
@@ -36,7 +36,7 @@ impl<'a, T> Range<'a, T> {
         }
     }
 
-    // How many rows there are.
+    /// How many rows there are.
     pub fn height(&self) -> usize
         ensures { λ r. ⌜ r ≡ height (sheet (now (self .entry))) ⌝ }
     {
@@ -46,21 +46,21 @@ impl<'a, T> Range<'a, T> {
         }
     }
 
-    // Rows and columns.
+    /// Rows and columns.
     pub fn get_size(&self) -> (usize, usize)
         ensures { λ r. ⌜ r ≡ (height (sheet (now (self .entry))), width (sheet (now (self .entry)))) ⌝ }
     {
         (self.height(), self.width())
     }
 
-    // Whether the sheet has no cells.
+    /// Whether the sheet has no cells.
     pub fn is_empty(&self) -> bool
         ensures { λ r. ⌜ r ≡ «is-empty» (sheet (now (self .entry))) ⌝ }
     {
         self.corners.is_none()
     }
 
-    // The text that cells refer to.
+    /// The text that cells refer to.
     pub fn text(&self) -> &'a [u8]
         ensures { λ r. ⌜ now r ≡ sheet (now (self .entry)) .text ⌝ }
     {

@@ -7,9 +7,9 @@ use crate::corners::Corners;
 
 #[derive(Drop)]
 pub struct Range<'a, T> {
-    // no corners: the empty sheet
+    /// no corners: the empty sheet
     pub(crate) corners: Option<Corners>,
-    // row after row
+    /// row after row
     pub(crate) cells: &'a [T],
     pub(crate) text: &'a [u8],
     ghost lawful: { shaped corners (length (cells .now)) ≡ true },

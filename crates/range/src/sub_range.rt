@@ -16,7 +16,7 @@ use crate::making::span;
 use crate::sheet::Range;
 
 impl<'a, T: Copy> Range<'a, T> {
-    // The cell that stands at a place of the part, row after row.
+    /// The cell that stands at a place of the part, row after row.
     fn cell_or(&self, corners: Corners, empty: T, place: usize) -> T
         requires ordered { ⌜ ordered corners ≡ true ⌝ }
         requires limited { ⌜ limited corners ≡ true ⌝ }
@@ -32,7 +32,7 @@ impl<'a, T: Copy> Range<'a, T> {
         }
     }
 
-    // Each cell of the part to its place in the front of the store.
+    /// Each cell of the part to its place in the front of the store.
     fn copy_cells(&self, corners: Corners, count: usize, empty: T, store: &mut [T])
         requires count { ⌜ count ≡ «rows-of» corners * «columns-of» corners ⌝ }
         requires ordered { ⌜ ordered corners ≡ true ⌝ }
@@ -45,8 +45,8 @@ impl<'a, T: Copy> Range<'a, T> {
         }
     }
 
-    // The part between corners of its own, row after row in the front of the store; tells how many cells it has.
-    // Where the part leaves the sheet it has the empty cell that the caller gives.
+    /// The part between corners of its own, row after row in the front of the store; tells how many cells it has.
+    /// Where the part leaves the sheet it has the empty cell that the caller gives.
     pub fn range_into(
         &self,
         corners: Corners,

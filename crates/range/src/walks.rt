@@ -10,7 +10,7 @@ use crate::rows::Rows;
 use crate::sheet::Range;
 
 impl<'a, T> Range<'a, T> {
-    // Every row, from the first to the last.
+    /// Every row, from the first to the last.
     pub fn rows(&self) -> Rows<'a, T>
         ensures { λ r. ⌜ «rows-left» r ≡ «rows-of-sheet» (sheet (now (self .entry))) ⌝ }
     {
@@ -22,7 +22,7 @@ impl<'a, T> Range<'a, T> {
         }
     }
 
-    // Every cell with its row and column, counted from the sheet's first, row after row.
+    /// Every cell with its row and column, counted from the sheet's first, row after row.
     pub fn cells(&self) -> Cells<'a, T>
         ensures { λ r. ⌜ «cells-left» r ≡ «cells-of-sheet» (sheet (now (self .entry))) ⌝ }
     {
@@ -64,7 +64,8 @@ pub impl<'a, T> DoubleEndedIterator for Rows<'a, T> as RowsDoubleEnded {
         if self.left == 0 {
             return None;
         }
-        let (rest, row) = self.cells.split_at(self.cells.len() - self.width);
+        let before = self.cells.len() - self.width;
+        let (rest, row) = self.cells.split_at(before);
         *self = Rows {
             cells: rest,
             width: self.width,

@@ -3,11 +3,11 @@ use datatype::cell_error_type::CellErrorType;
 use datatype::data::Data;
 use datatype::data::TextPart;
 use datatype::excel_date_time::ExcelDateTime;
+use datatype::showing::CellErrorTypeDisplay;
 use std::fmt;
 use std::num::f64_from_bits_with_nan;
-use datatype::showing::CellErrorTypeDisplay;
 
-// Bytes in quotes; what is not printable ASCII is escaped, and nothing is judged.
+/// Bytes in quotes; what is not printable ASCII is escaped, and nothing is judged.
 #[derive(Drop)]
 pub(crate) struct Quoted<'a>(pub(crate) &'a [u8]);
 
@@ -30,7 +30,7 @@ pub(crate) impl fmt::Display for Quoted<'_> as QuotedDisplay {
     }
 }
 
-// A cell of a sheet with the sheet's text.
+/// A cell of a sheet with the sheet's text.
 #[derive(Drop)]
 pub(crate) struct CellText<'a> {
     pub(crate) cell: Data,
@@ -38,7 +38,7 @@ pub(crate) struct CellText<'a> {
 }
 
 impl CellText<'_> {
-    // A text by its part of the sheet's text, or that it leaves it.
+    /// A text by its part of the sheet's text, or that it leaves it.
     fn write_part<W: fmt::Write>(&self, part: TextPart, f: &mut fmt::Formatter<W>) -> fmt::Result {
         let start = part.place as usize;
         let end = start + part.len as usize;
@@ -54,7 +54,11 @@ impl CellText<'_> {
 }
 
 fn write_serial<W: fmt::Write>(serial: ExcelDateTime, f: &mut fmt::Formatter<W>) -> fmt::Result {
-    let kind = if serial.is_duration() { "span" } else { "moment" };
+    let kind = if serial.is_duration() {
+        "span"
+    } else {
+        "moment"
+    };
     let system = if serial.is_1904 { "1904" } else { "1900" };
     let value = serial.as_f64();
     write!(f, "{kind} {system} {value}")

@@ -8,7 +8,7 @@ use std::fs;
 #[derive(Clone, Copy)]
 pub(crate) enum Outcome {
     Done,
-    // a sheet was refused, or the command is not known: it has been said, and the program ends with status 1
+    /// a sheet was refused, or the command is not known: it has been said, and the program ends with status 1
     Refused,
 }
 
@@ -16,7 +16,7 @@ const USAGE: &str = "usage:
   sehurani show FILE     print a sheet file, row by row
   sehurani batch FILE    run each line of a text file as a command";
 
-// Runs a command, or the commands of a file.
+/// Runs a command, or the commands of a file.
 pub(crate) fn run_words(rt: &LibcRuntime, words: &[String]) -> Result<Outcome, AnyError> {
     match words {
         [name, path] if name.as_str() == "batch" => batch(rt, path.as_str()),
@@ -34,7 +34,7 @@ fn run_command(rt: &LibcRuntime, words: &[String]) -> Result<Outcome, AnyError> 
     }
 }
 
-// Runs the commands of a file, one to a line, each printed before what it prints.
+/// Runs the commands of a file, one to a line, each printed before what it prints.
 fn batch(rt: &LibcRuntime, path: &str) -> Result<Outcome, AnyError> {
     let heap = rt.alloc();
     let text = fs::read_to_string(rt, path)?;

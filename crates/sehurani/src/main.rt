@@ -1,6 +1,6 @@
 // The office's and the workshop's tool over sheet files.
-mod command;
 mod cell_text;
+mod command;
 mod refusal;
 mod show;
 

@@ -10,8 +10,10 @@ fn words(fault: FileFault) -> &'static str {
     match fault {
         FileFault::Contents => "the table of contents is not lawful",
         FileFault::Sheet(RangeFault::Reversed) => "a first row or column is past its last",
-        FileFault::Sheet(RangeFault::PastLimits) => "a last row or column is past the limits of a sheet",
-        FileFault::Sheet(RangeFault::CellCount) => "the cells are not nine bytes each for every row and column",
+        FileFault::Sheet(RangeFault::PastLimits) =>
+            "a last row or column is past the limits of a sheet",
+        FileFault::Sheet(RangeFault::CellCount) =>
+            "the cells are not nine bytes each for every row and column",
         FileFault::Sheet(RangeFault::StoreShort) => "the cell store is too small",
         FileFault::Cell(_) => "a cell is of no listed kind or content",
     }

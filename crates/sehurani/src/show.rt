@@ -1,17 +1,17 @@
 // Prints a sheet file, row by row.
 use crate::cell_text::CellText;
+use crate::cell_text::CellTextDisplay;
 use crate::command::Outcome;
 use crate::refusal::Refusal;
+use crate::refusal::RefusalDisplay;
 use datatype::data::Data;
 use range::sheet::Range;
+use range::walks::CellsExactSize;
+use range::walks::RowsIterator;
 use sheetfile::sheet_file::read_sheet;
 use std::error::AnyError;
 use std::fs;
 use std::io;
-use crate::cell_text::CellTextDisplay;
-use crate::refusal::RefusalDisplay;
-use range::walks::CellsExactSize;
-use range::walks::RowsIterator;
 
 pub(crate) fn show(rt: &LibcRuntime, path: &str) -> Result<Outcome, AnyError> {
     let heap = rt.alloc();
@@ -47,8 +47,14 @@ fn print_sheet(rt: &LibcRuntime, range: &Range<Data>) -> io::Result<()> {
 }
 
 fn print_shape(rt: &LibcRuntime, range: &Range<Data>) -> io::Result<()> {
-    if let (Some((first_row, first_column)), Some((last_row, last_column))) = (range.start(), range.end()) {
-        println!(rt, "sheet: rows {first_row} to {last_row}, columns {first_column} to {last_column}")
+    if let (Some((first_row, first_column)), Some((last_row, last_column))) = (
+        range.start(),
+        range.end(),
+    ) {
+        println!(
+            rt,
+            "sheet: rows {first_row} to {last_row}, columns {first_column} to {last_column}"
+        )
     } else {
         println!(rt, "sheet: empty")
     }

@@ -1,5 +1,6 @@
 // Sheet files at the edges of every question.
 use datatype::data::Data;
+use datatype::data::DataPartialEq;
 use range::sheet::Range;
 use sheetfile::sheet_file::fill_cells;
 use sheetfile::sheet_file::read_sheet;
@@ -7,11 +8,66 @@ use std::test::*;
 
 // one row and two columns from row 1 and column 2 on, a whole -2 and an empty cell, the text `ok`
 const GOOD: [u8; 60] = [
-    24, 0, 0, 0, 16, 0, 0, 0, 40, 0, 0, 0, 18, 0, 0, 0, 58, 0, 0, 0, 2, 0, 0, 0, // contents
-    1, 0, 0, 0, 2, 0, 0, 0, 1, 0, 0, 0, 3, 0, 0, 0, // shape
-    1, 254, 255, 255, 255, 255, 255, 255, 255, // whole
-    0, 0, 0, 0, 0, 0, 0, 0, 0, // empty
-    b'o', b'k',
+    24,
+    0,
+    0,
+    0,
+    16,
+    0,
+    0,
+    0,
+    40,
+    0,
+    0,
+    0,
+    18,
+    0,
+    0,
+    0,
+    58,
+    0,
+    0,
+    0,
+    2,
+    0,
+    0,
+    0, // contents
+    1,
+    0,
+    0,
+    0,
+    2,
+    0,
+    0,
+    0,
+    1,
+    0,
+    0,
+    0,
+    3,
+    0,
+    0,
+    0, // shape
+    1,
+    254,
+    255,
+    255,
+    255,
+    255,
+    255,
+    255,
+    255, // whole
+    0,
+    0,
+    0,
+    0,
+    0,
+    0,
+    0,
+    0,
+    0, // empty
+    b'o',
+    b'k',
 ];
 
 // a byte of the good file changed, and the number that then refuses; 0 where the file is still read
@@ -63,7 +119,9 @@ fn lengths_and_stores() -> Result<(), Fail> {
         check(fill_cells(short, &mut store).is_err())?;
     }
     let mut store = [Data::Bool(true); 1];
-    let fault = fill_cells(&GOOD, &mut store).err().ok_or("one entry short")?;
+    let fault = fill_cells(&GOOD, &mut store)
+        .err()
+        .ok_or("one entry short")?;
     check_eq(fault.number(), 20)?;
     check(store[0] == Data::Bool(true))?;
     let mut exact = [Data::Bool(true); 2];
@@ -81,7 +139,32 @@ fn sheets() -> Result<(), Fail> {
     check(range.text() == b"ok")?;
     check(range.get((0, 0)).copied() == Some(Data::Int(-2)))?;
     check(range.get((0, 1)).copied() == Some(Data::Empty))?;
-    let empty = [24, 0, 0, 0, 0, 0, 0, 0, 24, 0, 0, 0, 0, 0, 0, 0, 24, 0, 0, 0, 0, 0, 0, 0];
+    let empty = [
+        24,
+        0,
+        0,
+        0,
+        0,
+        0,
+        0,
+        0,
+        24,
+        0,
+        0,
+        0,
+        0,
+        0,
+        0,
+        0,
+        24,
+        0,
+        0,
+        0,
+        0,
+        0,
+        0,
+        0,
+    ];
     let mut none = [Data::Empty; 0];
     check(read_sheet(&mut range, &empty, &mut none).is_ok())?;
     check(range.is_empty())

@@ -1,6 +1,8 @@
 // The three questions of making, one short, exact and one over.
 use range::corners::Corners;
 use range::fault::RangeFault;
+use range::fault::RangeFaultDebug;
+use range::fault::RangeFaultPartialEq;
 use range::sheet::Range;
 use std::test::*;
 
@@ -28,7 +30,12 @@ const CASES: [(u32, u32, u32, u32, usize, u8); 16] = [
 fn questions() -> Result<(), Fail> {
     let cells = [0u8; 8];
     for (first_row, first_column, last_row, last_column, count, refused) in CASES {
-        let corners = Corners { first_row, first_column, last_row, last_column };
+        let corners = Corners {
+            first_row,
+            first_column,
+            last_row,
+            last_column,
+        };
         let (given, _) = cells.split_at(count.min(8));
         let mut range = Range::empty();
         let number = match range.make(corners, given, b"text") {
@@ -44,15 +51,30 @@ fn questions() -> Result<(), Fail> {
 #[test]
 fn counts() -> Result<(), Fail> {
     // 2^34 cells: no product of 32 bits holds them
-    let whole = Corners { first_row: 0, first_column: 0, last_row: 1048575, last_column: 16383 };
+    let whole = Corners {
+        first_row: 0,
+        first_column: 0,
+        last_row: 1048575,
+        last_column: 16383,
+    };
     check_eq(whole.cell_count(), Ok(17179869184))?;
-    let turned = Corners { first_row: 1, first_column: 0, last_row: 0, last_column: 16384 };
+    let turned = Corners {
+        first_row: 1,
+        first_column: 0,
+        last_row: 0,
+        last_column: 16384,
+    };
     check_eq(turned.cell_count(), Err(RangeFault::Reversed))
 }
 
 #[test]
 fn refused_is_kept() -> Result<(), Fail> {
-    let one = Corners { first_row: 3, first_column: 4, last_row: 3, last_column: 4 };
+    let one = Corners {
+        first_row: 3,
+        first_column: 4,
+        last_row: 3,
+        last_column: 4,
+    };
     let mut range = Range::empty();
     check(range.make(one, &[5u8], b"kept").is_ok())?;
     check(range.make(one, &[5u8, 6u8], b"new").is_err())?;

@@ -19,7 +19,7 @@ use crate::numbers::read_u32;
 use range::corners::Corners;
 use range::fault::RangeFault;
 
-// The entry of the table of contents at a place.
+/// The entry of the table of contents at a place.
 fn extent(file: &[u8], at: usize) -> Extent
     requires { ⌜ at + 8 ≤ length (now file) ⌝ }
     ensures { λ r. ⌜ r ≡ «extent-at» (now (file .entry)) at ⌝ }
@@ -30,14 +30,14 @@ fn extent(file: &[u8], at: usize) -> Extent
     }
 }
 
-// The byte behind a part.
+/// The byte behind a part.
 fn behind(part: Extent) -> usize
     ensures { λ r. ⌜ r ≡ behind part ⌝ }
 {
     part.place as usize + part.len as usize
 }
 
-// Do the parts follow one another from byte 24 to the end of the file?
+/// Do the parts follow one another from byte 24 to the end of the file?
 fn is_gapless(contents: Contents, size: usize) -> bool
     ensures { λ r. ⌜ r ≡ gapless contents size ⌝ }
 {
@@ -48,14 +48,14 @@ fn is_gapless(contents: Contents, size: usize) -> bool
     (shape_follows & cells_follow) & (text_follows & text_ends)
 }
 
-// Are all three lengths 0?
+/// Are all three lengths 0?
 fn has_no_parts(contents: Contents) -> bool
     ensures { λ r. ⌜ r ≡ «no-parts» contents ⌝ }
 {
     (contents.shape.len == 0) & ((contents.cells.len == 0) & (contents.text.len == 0))
 }
 
-// The table of contents, where it is lawful.
+/// The table of contents, where it is lawful.
 fn contents(file: &[u8]) -> Option<Contents>
     ensures { λ r. ⌜ r ≡ cond (lawful (now (file .entry))) (Some («contents-of» (now (file .entry)))) None ⌝ }
 {
@@ -75,7 +75,7 @@ fn contents(file: &[u8]) -> Option<Contents>
     }
 }
 
-// The shape at a place: first row, first column, last row, last column.
+/// The shape at a place: first row, first column, last row, last column.
 fn corners(file: &[u8], at: usize) -> Corners
     requires { ⌜ at + 16 ≤ length (now file) ⌝ }
     ensures { λ r. ⌜ r ≡ «corners-at» (now (file .entry)) at ⌝ }
@@ -88,7 +88,7 @@ fn corners(file: &[u8], at: usize) -> Corners
     }
 }
 
-// How many cells the shape has, where their bytes and the store agree with it.
+/// How many cells the shape has, where their bytes and the store agree with it.
 fn ask_shape(corners: Corners, bytes: usize, room: usize) -> Result<usize, RangeFault>
     ensures answers { λ r. ⌜ «refusal-of» making.told r ≡ «first-no» («shape-questions» corners bytes room) ⌝ }
     ensures count { λ r. ⌜ made r (λ n. n ≡ «rows-of» corners * «columns-of» corners) ⌝ }
@@ -103,7 +103,7 @@ fn ask_shape(corners: Corners, bytes: usize, room: usize) -> Result<usize, Range
     Ok(count)
 }
 
-// Every question before the cells: where the sheet lies, or none for the empty sheet.
+/// Every question before the cells: where the sheet lies, or none for the empty sheet.
 pub(crate) fn layout(file: &[u8], room: usize) -> Result<Option<Layout>, FileFault>
     ensures answers { λ r. ⌜ «refusal-of» told r ≡ «first-no» («layout-questions» (now (file .entry)) room) ⌝ }
     ensures is { λ r. ⌜ made r (λ o. o ≡ «file-layout» (now (file .entry))) ⌝ }

@@ -13,7 +13,7 @@ use datatype::excel_date_time::ExcelDateTime;
 use datatype::excel_date_time::ExcelDateTimeType;
 use std::num::f64_from_bits_with_nan;
 
-// A cell whose number is a float: only a finite one.
+/// A cell whose number is a float: only a finite one.
 fn when_finite(bits: u64, cell: Data) -> Option<Data>
     ensures { λ r. ⌜ r ≡ «when-finite» bits cell ⌝ }
 {
@@ -84,7 +84,7 @@ fn cell_of(kind: u8, number: u64, text: TextPart) -> Option<Data>
     }
 }
 
-// The cell that nine bytes from a place on stand for, or none.
+/// The cell that nine bytes from a place on stand for, or none.
 pub(crate) fn read_cell(file: &[u8], at: usize) -> Option<Data>
     requires inside { ⌜ at + 9 ≤ length (now file) ⌝ }
     ensures { λ r. ⌜ r ≡ decoded (part at 9 (now (file .entry))) ⌝ }

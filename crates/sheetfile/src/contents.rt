@@ -14,7 +14,7 @@ pub(crate) struct Contents {
     pub(crate) text: Extent,
 }
 
-// What is known of a sheet before its cells are read.
+/// What is known of a sheet before its cells are read.
 #[derive(Clone, Copy)]
 pub(crate) struct Layout {
     pub(crate) corners: Corners,

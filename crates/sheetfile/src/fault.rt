@@ -7,11 +7,11 @@ use range::fault::RangeFaultPartialEq;
 
 #[derive(Clone, Copy, PartialEq, Eq, Debug)]
 pub enum FileFault {
-    // the table of contents is not lawful: 18
+    /// the table of contents is not lawful: 18
     Contents,
-    // the shape, the number of cells or the store: 1, 2, 3 or 20
+    /// the shape, the number of cells or the store: 1, 2, 3 or 20
     Sheet(RangeFault),
-    // a cell of no listed kind or content, by its index in the order of the file: 19
+    /// a cell of no listed kind or content, by its index in the order of the file: 19
     Cell(usize),
 }
 

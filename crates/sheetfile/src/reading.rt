@@ -12,7 +12,7 @@ use crate::contents::Layout;
 use crate::fault::FileFault;
 use datatype::data::Data;
 
-// Writes cell after cell to its place, up to the first that nine bytes do not stand for.
+/// Writes cell after cell to its place, up to the first that nine bytes do not stand for.
 fn write_cells(file: &[u8], place: usize, count: usize, store: &mut [Data]) -> Result<(), FileFault>
     requires inside { ⌜ place + 9 * count ≤ length (now file) ⌝ }
     requires room { ⌜ count ≤ length (now store) ⌝ }
@@ -32,7 +32,7 @@ fn write_cells(file: &[u8], place: usize, count: usize, store: &mut [Data]) -> R
     Ok(())
 }
 
-// Fills the store, and tells where the sheet lies; none for the empty sheet.
+/// Fills the store, and tells where the sheet lies; none for the empty sheet.
 pub(crate) fn fill(file: &[u8], store: &mut [Data]) -> Result<Option<Layout>, FileFault>
     ensures answers { λ r. ⌜ «refusal-of» told r ≡ «first-no» («file-questions» (now (file .entry)) (length (now (store .entry)))) ⌝ }
     ensures holds { λ r. ⌜ now (store .exit) ≡ stored (now (file .entry)) (now (store .entry)) ⌝ }

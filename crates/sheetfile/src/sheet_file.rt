@@ -18,7 +18,7 @@ use datatype::data::Data;
 use range::sheet::Range;
 
 impl FileFault {
-    // The number of the refusal.
+    /// The number of the refusal.
     pub fn number(&self) -> u8
         ensures { λ r. ⌜ r ≡ told (now (self .entry)) .number ⌝ }
     {
@@ -30,8 +30,8 @@ impl FileFault {
     }
 }
 
-// Fills the front of the store with the cells of the file, each at its place in the sheet.
-// A no before the cells leaves the store as it was; a bad cell leaves those before it written.
+/// Fills the front of the store with the cells of the file, each at its place in the sheet.
+/// A no before the cells leaves the store as it was; a bad cell leaves those before it written.
 pub fn fill_cells(file: &[u8], store: &mut [Data]) -> Result<(), FileFault>
     ensures answers { λ r. ⌜ «refusal-of» told r ≡ «first-no» («file-questions» (now (file .entry)) (length (now (store .entry)))) ⌝ }
     ensures holds { λ r. ⌜ now (store .exit) ≡ stored (now (file .entry)) (now (store .entry)) ⌝ }
@@ -41,7 +41,7 @@ pub fn fill_cells(file: &[u8], store: &mut [Data]) -> Result<(), FileFault>
     Ok(())
 }
 
-// Makes the sheet over the filled store.
+/// Makes the sheet over the filled store.
 fn lend<'a>(range: &mut Range<'a, Data>, layout: Layout, file: &'a [u8], store: &'a [Data])
     requires lawful { ⌜ Lawful (layout .corners) (layout .«cell_count») ⌝ }
     requires room { ⌜ layout .«cell_count» ≤ length (now store) ⌝ }
@@ -53,8 +53,8 @@ fn lend<'a>(range: &mut Range<'a, Data>, layout: Layout, file: &'a [u8], store: 
     let _ = range.make(layout.corners, cells, text);
 }
 
-// Reads a file: the store is filled with its cells, and the range becomes its sheet over the store and the file's text.
-// A refusal leaves the range as it was, and gives the store back.
+/// Reads a file: the store is filled with its cells, and the range becomes its sheet over the store and the file's text.
+/// A refusal leaves the range as it was, and gives the store back.
 pub fn read_sheet<'a>(
     range: &mut Range<'a, Data>,
     file: &'a [u8],

@@ -17,5 +17,5 @@ returns g c =
     let column = c .args .relative-position .1 in
     let size = c .get-size-height .result in
     let within : c .place-at .result < length cells = search needs in
-    cell-found cells row column (size .0) (size .1) (c .place-at .result) (c .index-self-at .result) (c .if-row-height .left) (c .if-column-width .left) (c .place-at .ensures .is) within
+    cell-found cells row column (size .0) (size .1) (c .place-at .result) (c .index-self-at .result) (omega arith) (omega arith) (c .place-at .ensures .is) within
     ∙ ap (λ (p : ℕ × ℕ). cond (ltb row (p .0) && ltb column (p .1)) (nth cells (row * p .1 + column)) None) (c .get-size-height .ensures)

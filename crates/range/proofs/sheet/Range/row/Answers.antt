@@ -1,5 +1,6 @@
 use mathlib.Core.Path.{_≡_, sym, ap, _∙_}
 use Prim.Native.Nat.{ℕ, _*_}
+use native.Mathlib.Omega.{arith}
 use lib.ListN.{length}
 use Rattle.range.specs.Sheets.{sheet, height, width}
 use Rattle.range.proofs.Places.{row-inside}
@@ -10,5 +11,5 @@ pub part-requires : need.part-requires
 part-requires g c κs =
     let s = c .args .self .now in
     let size = c .get-size-height .result in
-    row-inside (c .args .index) (size .0) (size .1) (length (s .cells .now)) (c .if-index-height .left)
+    row-inside (c .args .index) (size .0) (size .1) (length (s .cells .now)) (omega arith)
     (sized-so size _ _ _ (c .get-size-height .ensures) (grid-count (s .corners) (length (s .cells .now)) (s .lawful)))

@@ -1,14 +1,15 @@
 use mathlib.Core.Path.{refl}
+use lib.ListN.{length}
 use native.Mathlib.Omega.{arith}
 use borrow.Author.Needs.{needs}
 use Rattle.range.proofs.Places.{row-fits}
 use Rattle.range.proofs.Taking.{last-row}
 use Rattle.range.proofs.walks.RowsDoubleEnded.next_back.Needs as need
 
-pub sub-self : need.sub-self
-sub-self g c =
+pub sub-before : need.sub-before
+sub-before g c =
     let rows = c .args .self .now in
-    row-fits (rows .left) (rows .width) _ (omega arith) (rows .whole)
+    omega (arith, row-fits (rows .left) (rows .width) (length (rows .cells .now)) (omega arith) (rows .whole))
 
 pub returns : need.returns
 returns g c =

@@ -1,4 +1,5 @@
 use native.Mathlib.Omega.{arith}
+use lib.ListN.{length}
 use borrow.Author.Needs.{needs}
 use Rattle.range.proofs.Places.{row-fits}
 use Rattle.range.proofs.Taking.{first-row}
@@ -7,7 +8,7 @@ use Rattle.range.proofs.walks.RowsIterator.next.Needs as need
 pub split-at-requires : need.split-at-requires
 split-at-requires g c κs =
     let rows = c .args .self .now in
-    row-fits (rows .left) (rows .width) _ (omega arith) (rows .whole)
+    omega (arith, row-fits (rows .left) (rows .width) (length (rows .cells .now)) (omega arith) (rows .whole))
 
 pub returns : need.returns
 returns g c =
