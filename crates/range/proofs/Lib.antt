@@ -2,4 +2,5 @@ pub mod QuestionLaws
 pub mod Places
 pub mod ShapeLaws
 pub mod Taking
+pub mod WalkLaws
 pub mod Filling

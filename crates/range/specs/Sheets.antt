@@ -6,7 +6,7 @@ use lib.Dec.{leb, ltb}
 use lib.ListN.{take, drop}
 use Rattle.std.specs.Finite.{nth}
 use Rattle.std.specs.Iters.{counting}
-use Rattle.std.specs.Options.{isSome, valueOr}
+use Rattle.std.specs.Options.{isSome, mapped, valueOr}
 use Rattle.std.specs.declared.option.Option.{Option}
 use Rattle.std.specs.declared.option.Option.the-variants.{Some, None}
 use Rattle.range.specs.Shapes.{rows-of, columns-of}
@@ -34,6 +34,13 @@ is-empty s = not (isSome (s .corners))
 abbrev pub by-corners : {A : Type 0} → Option Corners → A → (Corners → A) → A
 by-corners None none some = none
 by-corners (Some k) none some = some k
+
+-- the first row and column, and the last; none for the empty sheet
+abbrev pub start-of : {C : Type 0} → Sheet C → Option (ℕ × ℕ)
+start-of s = mapped (λ k. (k .«first_row», k .«first_column»)) (s .corners)
+
+abbrev pub end-of : {C : Type 0} → Sheet C → Option (ℕ × ℕ)
+end-of s = mapped (λ k. (k .«last_row», k .«last_column»)) (s .corners)
 
 abbrev pub height : {C : Type 0} → Sheet C → ℕ
 height s = by-corners (s .corners) 0 rows-of

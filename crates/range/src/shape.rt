@@ -1,14 +1,13 @@
 // The place and the size of a sheet.
 ghost use mathlib.Core.Path.{_≡_};
-ghost use Rattle.std.specs.Options.{mapped};
-ghost use Rattle.range.specs.Sheets.{sheet, height, width, «is-empty»};
+ghost use Rattle.range.specs.Sheets.{sheet, «start-of», «end-of», height, width, «is-empty»};
 use crate::making::span;
 use crate::sheet::Range;
 
 impl<'a, T> Range<'a, T> {
     /// The first row and column; none for the empty sheet.
     pub fn start(&self) -> Option<(u32, u32)>
-        ensures { λ r. ⌜ r ≡ mapped (λ k. (k .«first_row», k .«first_column»)) (sheet (now (self .entry)) .corners) ⌝ }
+        ensures { λ r. ⌜ r ≡ «start-of» (sheet (now (self .entry))) ⌝ }
     {
         match self.corners {
             Some(corners) => Some((corners.first_row, corners.first_column)),
@@ -18,7 +17,7 @@ impl<'a, T> Range<'a, T> {
 
     /// The last row and column; none for the empty sheet.
     pub fn end(&self) -> Option<(u32, u32)>
-        ensures { λ r. ⌜ r ≡ mapped (λ k. (k .«last_row», k .«last_column»)) (sheet (now (self .entry)) .corners) ⌝ }
+        ensures { λ r. ⌜ r ≡ «end-of» (sheet (now (self .entry))) ⌝ }
     {
         match self.corners {
             Some(corners) => Some((corners.last_row, corners.last_column)),

@@ -3,7 +3,10 @@ ghost use mathlib.Core.Path.{_≡_};
 ghost use lib.ListN.{length};
 ghost use denote.Ref.{now as behind};
 ghost use Rattle.std.specs.Options.{mapped};
-ghost use Rattle.range.specs.Sheets.{sheet};
+ghost use Rattle.range.specs.Sheets.{sheet, height, width, «row-at», «cell-at»};
+ghost use Rattle.std.specs.Finite.{nth};
+ghost use Rattle.std.specs.declared.option.Option.«the-variants».{Some};
+ghost use Prim.Native.Nat.{ℕ, _*_};
 ghost use Rattle.range.specs.Walks.{«rows-left», «rows-of-sheet», «cells-left», «cells-of-sheet», «First-taken», «Last-taken», «cell-shown»};
 use crate::cells::Cells;
 use crate::rows::Rows;
@@ -12,7 +15,8 @@ use crate::sheet::Range;
 impl<'a, T> Range<'a, T> {
     /// Every row, from the first to the last.
     pub fn rows(&self) -> Rows<'a, T>
-        ensures { λ r. ⌜ «rows-left» r ≡ «rows-of-sheet» (sheet (now (self .entry))) ⌝ }
+        ensures all { λ r. ⌜ «rows-left» r ≡ «rows-of-sheet» (sheet (now (self .entry))) ⌝ }
+        ensures rows { λ r. ⌜ ((k : ℕ) → nth («rows-left» r) k ≡ «row-at» (sheet (now (self .entry))) k) ⌝ }
     {
         let (left, width) = self.get_size();
         Rows {
@@ -24,7 +28,9 @@ impl<'a, T> Range<'a, T> {
 
     /// Every cell with its row and column, counted from the sheet's first, row after row.
     pub fn cells(&self) -> Cells<'a, T>
-        ensures { λ r. ⌜ «cells-left» r ≡ «cells-of-sheet» (sheet (now (self .entry))) ⌝ }
+        ensures all { λ r. ⌜ «cells-left» r ≡ «cells-of-sheet» (sheet (now (self .entry))) ⌝ }
+        ensures count { λ r. ⌜ length («cells-left» r) ≡ height (sheet (now (self .entry))) * width (sheet (now (self .entry))) ⌝ }
+        ensures places { λ r. ⌜ ((k row column : ℕ) (c : T) → nth («cells-left» r) k ≡ Some (row, column, c) → «cell-at» (sheet (now (self .entry))) row column ≡ Some c) ⌝ }
     {
         Cells {
             cells: self.cells,
