@@ -1,0 +1,236 @@
+-- Digits and whole numbers as text.
+use mathlib.Core.Path.{_≡_, refl, sym, ap, _∙_, subst}
+use mathlib.Core.Bool.{Bool, true, false, cond, _&&_, _||_, not, true≢false}
+use mathlib.Core.List.{List, [], _∷_, _++_}
+use mathlib.Core.Logic.{_⊎_, inl, inr}
+use Prim.Native.Nat.{ℕ, zero, suc, _+_, _-_, _*_, _^_, _≤_, _<_}
+use native.Mathlib.Nat.{le-refl, le-trans}
+use native.Mathlib.Omega.{arith}
+use native.Mathlib.Numerals.{add-one}
+use lib.Dec.{eqb, ltb, leb}
+use lib.ListN.{length, take, drop, getD}
+use lib.Seq.{drop-cons, drop-length, take-length}
+use lib.IntN.{ℤ, pos, negsuc, negℤ}
+use Rattle.std.specs.declared.option.Option.{Option}
+use Rattle.std.specs.declared.option.Option.the-variants.{Some, None}
+use Rattle.std.specs.Text.{asciiDigit}
+use Rattle.std.specs.shelf.Text.{allDigits}
+use Rattle.std.proofs.shelf.Tests.{ltb-false, lt-ltb, le-ltb, leb-true, eqb-true, eq-eqb, ne-eqb, cond-true, cond-false, cases-bool, and-from, and-right, and-left, and-parts, and-cases, or-left, or-right, or-from}
+use Rattle.number.specs.Widths.{Wide, signed, unsigned, has-sign, fits, if-fits, under-sign, narrow-whole}
+use Rattle.number.proofs.Narrowing.{keeps}
+use Rattle.number.specs.Numerals.{value-after, digits-after, numeral, digits-in, begins-minus, after-sign, whole-of-text, Sign, bare, plus, minus, sign-bytes, is-minus, Writes}
+
+-- digits go on from the number before them
+pub value-append : (n : ℕ) (xs ys : List ℕ) → value-after n (xs ++ ys) ≡ value-after (value-after n xs) ys
+value-append n [] ys = refl
+value-append n (x ∷ xs) ys = value-append (n * 10 + (x - 48)) xs ys
+
+-- more digits never make a number smaller
+pub value-ge : (n : ℕ) (xs : List ℕ) → n ≤ value-after n xs
+value-ge n [] = le-refl n
+value-ge n (x ∷ xs) = le-trans (omega arith) (value-ge (n * 10 + (x - 48)) xs)
+
+-- a digit more
+pub digit-more : (n b : ℕ) (bs : List ℕ) → asciiDigit b ≡ true → digits-after (n * 10 + (b - 48)) bs ≡ digits-after n (b ∷ bs)
+digit-more n b bs e =
+    ap (λ (t : Bool). cond ((t && allDigits bs) && ltb (value-after (n * 10 + (b - 48)) bs) (2 ^ 64)) (Some (value-after (n * 10 + (b - 48)) bs)) None) (sym e)
+
+-- a byte that is no digit
+pub no-digit : (n b : ℕ) (bs : List ℕ) → asciiDigit b ≡ false → digits-after n (b ∷ bs) ≡ None
+no-digit n b bs e = cond-false _ _ _ (and-left _ _ (and-left _ _ e))
+
+-- a number that is too large already
+pub too-large : (n b : ℕ) (bs : List ℕ) → 2 ^ 64 ≤ n * 10 + (b - 48) → digits-after n (b ∷ bs) ≡ None
+too-large n b bs h = cond-false _ _ _ (and-right _ _ (le-ltb _ _ (le-trans h (value-ge (n * 10 + (b - 48)) bs))))
+
+-- the rest of a list begins with the element there
+front : (ds : List ℕ) (i : ℕ) → i < length ds → drop i ds ≡ getD ds i 0 ∷ drop (i + 1) ds
+front ds i h = drop-cons ds i 0 h ∙ ap (λ (k : ℕ). getD ds i 0 ∷ drop k ds) (sym (add-one i))
+
+-- A loop over digits: n is read and the rest from i on is left, which together are the whole. So one more digit is read,
+module _ (n a i : ℕ) (ds : List ℕ) (h : i < length ds) (inv : digits-after n (drop i ds) ≡ digits-after a ds) where
+  left-is : digits-after n (getD ds i 0 ∷ drop (i + 1) ds) ≡ digits-after a ds
+  left-is = ap (digits-after n) (sym (front ds i h)) ∙ inv
+
+  pub read-more : (m : ℕ) → asciiDigit (getD ds i 0) ≡ true → m ≡ n * 10 + (getD ds i 0 - 48) → digits-after m (drop (i + 1) ds) ≡ digits-after a ds
+  read-more m e q = ap (λ (k : ℕ). digits-after k (drop (i + 1) ds)) q ∙ (digit-more n (getD ds i 0) (drop (i + 1) ds) e ∙ left-is)
+
+  -- or the byte is no digit,
+  pub read-no-digit : asciiDigit (getD ds i 0) ≡ false → None ≡ digits-after a ds
+  read-no-digit e = sym (no-digit n (getD ds i 0) (drop (i + 1) ds) e) ∙ left-is
+
+  -- or the number is too large
+  pub read-too-large : 2 ^ 64 ≤ n * 10 + (getD ds i 0 - 48) → None ≡ digits-after a ds
+  read-too-large l = sym (too-large n (getD ds i 0) (drop (i + 1) ds) l) ∙ left-is
+
+-- the end of such a loop
+pub read-all : (n a i : ℕ) (ds : List ℕ) → n < 2 ^ 64 → i ≡ length ds → digits-after n (drop i ds) ≡ digits-after a ds → Some n ≡ digits-after a ds
+read-all n a i ds l e inv =
+    sym (cond-true _ _ _ (lt-ltb n (2 ^ 64) l)) ∙ (ap (digits-after n) (sym (ap (λ (k : ℕ). drop k ds) e ∙ drop-length ds)) ∙ inv)
+
+-- what a test that came out says
+some-is : {A : Type 0} (b : Bool) (x y : A) → Some y ≡ cond b (Some x) None → (b ≡ true) × (x ≡ y)
+some-is true x y e = (refl, cc)
+some-is false x y e = let k : _≡_ {A = ℕ} 0 1 = cc in let z : ⊥ = omega arith in absurd z
+
+none-is : {A : Type 0} (b : Bool) (x : A) → None ≡ cond b (Some x) None → b ≡ false
+none-is true x e = let k : _≡_ {A = ℕ} 0 1 = cc in let z : ⊥ = omega arith in absurd z
+none-is false x e = refl
+
+-- a number of 2 ^ 64 or more is no signed number of 64 bits, with either sign
+unfit : (minus : Bool) (n : ℕ) → 2 ^ 64 ≤ n → fits (signed 63) (under-sign minus n) ≡ false
+unfit false n h = le-ltb n (2 ^ 63) (omega arith)
+unfit true zero h = let z : ⊥ = omega arith in absurd z
+unfit true (suc n) h = le-ltb n (2 ^ 63) (omega arith)
+
+-- Digits under a sign, in a width whose numbers all fit 64 bits with a sign.
+module _ (w : Wide) (within : (z : ℤ) → fits w z ≡ true → fits (signed 63) z ≡ true) (minus : Bool) where
+  -- what does not fit 64 bits does not fit the width
+  outside : (z : ℤ) → fits (signed 63) z ≡ false → fits w z ≡ false
+  outside z e = elim (cases-bool (fits w z)) [ inl f ↦ absurd (true≢false (sym (within z f) ∙ e)) | inr f ↦ f ]
+
+  numeral-of : (ds : List ℕ) → (length ds ≡ 0 → ⊥) → numeral ds ≡ allDigits ds
+  numeral-of [] h = absurd (h refl)
+  numeral-of (d ∷ ds) h = refl
+
+  -- no digits
+  pub none-at-all : (ds : List ℕ) → length ds ≡ 0 → None ≡ digits-in w minus ds
+  none-at-all [] h = refl
+  none-at-all (d ∷ ds) h = let z : ⊥ = omega arith in absurd z
+
+  module _ (ds : List ℕ) (some : length ds ≡ 0 → ⊥) where
+    -- no digits throughout, or a number of more than 64 bits
+    pub unread : None ≡ digits-after 0 ds → None ≡ digits-in w minus ds
+    unread e =
+        let z = under-sign minus (value-after 0 ds) in
+        let no : (numeral ds && fits w z) ≡ false = elim (and-cases (allDigits ds) (ltb (value-after 0 ds) (2 ^ 64)) (none-is _ _ e)) [
+            | inl a ↦ and-left (numeral ds) (fits w z) (numeral-of ds some ∙ a)
+            | inr l ↦ and-right (numeral ds) (fits w z) (outside z (unfit minus (value-after 0 ds) (ltb-false _ _ l)))
+          ] in
+        sym (cond-false _ _ _ no)
+
+    module _ (n : ℕ) (read : Some n ≡ digits-after 0 ds) where
+      read-is : (allDigits ds ≡ true) × (value-after 0 ds ≡ n)
+      read-is = let p = some-is (allDigits ds && ltb (value-after 0 ds) (2 ^ 64)) (value-after 0 ds) n read in (and-parts _ _ (p .0) .0, p .1)
+
+      -- a number that fits 64 bits without a sign only
+      pub unsigned-only : None ≡ if-fits (signed 63) (under-sign minus n) → None ≡ digits-in w minus ds
+      unsigned-only e =
+          sym (cond-false _ _ _ (and-right (numeral ds) _ (ap (λ (v : ℕ). fits w (under-sign minus v)) (read-is .1) ∙ outside _ (none-is _ _ e))))
+
+      module _ (z : ℤ) (whole : Some z ≡ if-fits (signed 63) (under-sign minus n)) where
+        value-is : under-sign minus (value-after 0 ds) ≡ z
+        value-is = ap (under-sign minus) (read-is .1) ∙ some-is (fits (signed 63) (under-sign minus n)) _ _ whole .1
+
+        module _ (y : ℤ) (same : y ≡ z) where
+          -- a number that the width has, kept whole
+          pub held : true ≡ fits w y → Some (narrow-whole w y) ≡ digits-in w minus ds
+          held f =
+              let r : fits w z ≡ true = sym (ap (fits w) same) ∙ sym f in
+              ap Some (ap (narrow-whole w) same ∙ (keeps w z r ∙ sym value-is))
+              ∙ sym (cond-true _ _ _ (and-from _ _ (numeral-of ds some ∙ read-is .0) (ap (fits w) value-is ∙ r)))
+
+          -- and one that it does not have
+          pub not-held : false ≡ fits w y → None ≡ digits-in w minus ds
+          not-held f = sym (cond-false _ _ _ (and-right (numeral ds) _ (ap (fits w) value-is ∙ (sym (ap (fits w) same) ∙ sym f))))
+
+-- a text after its sign
+rest-is : (b : ℕ) (bs : List ℕ) → take (length (b ∷ bs) - 1) (drop 1 (b ∷ bs)) ≡ bs
+rest-is b bs = ap (λ (k : ℕ). take k bs) (omega arith) ∙ take-length bs
+
+pub sign-off : (text : List ℕ) → 1 ≤ length text → (getD text 0 0 ≡ 43) ⊎ (getD text 0 0 ≡ 45) → take (length text - 1) (drop 1 text) ≡ after-sign text
+sign-off [] h e = let z : ⊥ = omega arith in absurd z
+sign-off (b ∷ bs) h (inl e) = rest-is b bs ∙ sym (cond-true _ _ _ (or-left (eqb b 43) (eqb b 45) (eq-eqb b 43 e)))
+sign-off (b ∷ bs) h (inr e) = rest-is b bs ∙ sym (cond-true _ _ _ (or-right (eqb b 43) (eqb b 45) (eq-eqb b 45 e)))
+
+pub no-sign : (text : List ℕ) → (1 ≤ length text → getD text 0 0 ≡ 43 → ⊥) → (1 ≤ length text → getD text 0 0 ≡ 45 → ⊥) → text ≡ after-sign text
+no-sign [] p m = refl
+no-sign (b ∷ bs) p m = sym (cond-false _ _ _ (or-from (eqb b 43) (eqb b 45) (ne-eqb b 43 (p (omega arith))) (ne-eqb b 45 (m (omega arith)))))
+
+-- whether it begins with a minus
+pub is-minus-text : (text : List ℕ) → 1 ≤ length text → getD text 0 0 ≡ 45 → true ≡ begins-minus text
+is-minus-text [] h e = let z : ⊥ = omega arith in absurd z
+is-minus-text (b ∷ bs) h e = sym (eq-eqb b 45 e)
+
+pub no-minus-text : (text : List ℕ) → (1 ≤ length text → getD text 0 0 ≡ 45 → ⊥) → false ≡ begins-minus text
+no-minus-text [] m = refl
+no-minus-text (b ∷ bs) m = sym (ne-eqb b 45 (m (omega arith)))
+
+-- every text is a sign, or none, and what follows it
+pub sign-of : (text : List ℕ) → (s : Sign) × (text ≡ sign-bytes s ++ after-sign text) × (is-minus s ≡ begins-minus text)
+sign-of [] = (bare, refl, refl)
+sign-of (b ∷ bs) = elim (cases-bool (eqb b 45)) [
+    | inl e ↦ (minus, (λ i. eqb-true b 45 e i ∷ sym (cond-true (eqb b 43 || eqb b 45) bs (b ∷ bs) (or-right _ _ e)) i), sym e)
+    | inr m ↦ elim (cases-bool (eqb b 43)) [
+        | inl e ↦ (plus, (λ i. eqb-true b 43 e i ∷ sym (cond-true (eqb b 43 || eqb b 45) bs (b ∷ bs) (or-left _ _ e)) i), sym m)
+        | inr p ↦ (bare, sym (cond-false (eqb b 43 || eqb b 45) bs (b ∷ bs) (or-from _ _ p m)), sym m)
+      ]
+  ]
+
+-- bytes that begin with no sign
+abbrev pub Bare : List ℕ → Type 0
+Bare bs = (begins-minus bs ≡ false) × (after-sign bs ≡ bs)
+
+-- a sign before such bytes is the text's
+pub of-sign : (s : Sign) (bs : List ℕ) → Bare bs → (begins-minus (sign-bytes s ++ bs) ≡ is-minus s) × (after-sign (sign-bytes s ++ bs) ≡ bs)
+of-sign bare bs h = h
+of-sign plus bs h = (refl, refl)
+of-sign minus bs h = (refl, refl)
+
+-- what begins with a digit begins with no sign
+pub digit-bare : (b : ℕ) (bs : List ℕ) → asciiDigit b ≡ true → Bare (b ∷ bs)
+digit-bare b bs e =
+    let low : 48 ≤ b = leb-true _ _ (and-parts (leb 48 b) (leb b 57) e .0) in
+    (ne-eqb b 45 (λ q. omega arith), cond-false _ _ _ (or-from _ _ (ne-eqb b 43 (λ q. omega arith)) (ne-eqb b 45 (λ q. omega arith))))
+
+pub numeral-bare : (ds : List ℕ) → numeral ds ≡ true → Bare ds
+numeral-bare [] e = absurd (true≢false (sym e))
+numeral-bare (d ∷ ds) e = digit-bare d ds (and-parts (asciiDigit d) (allDigits ds) e .0)
+
+-- a minus that the width does not have
+allowed-by : (m h : Bool) → (m && not h) ≡ false → (not m || h) ≡ true
+allowed-by true true e = refl
+allowed-by true false e = absurd (true≢false e)
+allowed-by false h e = refl
+
+refused-by : (m h : Bool) → (not m || h) ≡ true → (m && not h) ≡ false
+refused-by true true e = refl
+refused-by true false e = absurd (true≢false (sym e))
+refused-by false h e = refl
+
+-- Some where a test failed, and where one passed
+unrefused : {A : Type 0} (b : Bool) (o : Option A) (z : A) → cond b None o ≡ Some z → (b ≡ false) × (o ≡ Some z)
+unrefused true o z e = let k : _≡_ {A = ℕ} 0 1 = cc in let y : ⊥ = omega arith in absurd y
+unrefused false o z e = (refl, e)
+
+-- what is read from a text, the text writes
+pub written : (w : Wide) (text : List ℕ) (z : ℤ) → whole-of-text w text ≡ Some z → Writes w text z
+written w text z e =
+    let s = sign-of text in
+    let ds = after-sign text in
+    let p = unrefused (begins-minus text && not (has-sign w)) (digits-in w (begins-minus text) ds) z e in
+    let v = under-sign (begins-minus text) (value-after 0 ds) in
+    let q = some-is (numeral ds && fits w v) v z (sym (p .1)) in
+    let r = and-parts (numeral ds) (fits w v) (q .0) in
+    record {
+      sign = s .0;
+      digits = ds;
+      whole = s .1;
+      some = r .0;
+      allowed = allowed-by _ (has-sign w) (ap (λ (m : Bool). m && not (has-sign w)) (s .2) ∙ p .0);
+      value = ap (λ (m : Bool). under-sign m (value-after 0 ds)) (s .2) ∙ q .1;
+      room = sym (ap (fits w) (q .1)) ∙ r .1
+    }
+
+-- and what it writes is read
+pub read : (w : Wide) (text : List ℕ) (z : ℤ) → Writes w text z → whole-of-text w text ≡ Some z
+read w text z h =
+    let s = h .sign in
+    let ds = h .digits in
+    let p = of-sign s ds (numeral-bare ds (h .some)) in
+    let v = under-sign (is-minus s) (value-after 0 ds) in
+    ap (whole-of-text w) (h .whole)
+    ∙ (ap (λ (m : Bool). cond (m && not (has-sign w)) None (digits-in w m (after-sign (sign-bytes s ++ ds)))) (p .0)
+    ∙ (cond-false _ None _ (refused-by (is-minus s) (has-sign w) (h .allowed))
+    ∙ (ap (digits-in w (is-minus s)) (p .1)
+    ∙ (cond-true _ _ _ (and-from (numeral ds) (fits w v) (h .some) (ap (fits w) (h .value) ∙ h .room)) ∙ ap Some (h .value)))))

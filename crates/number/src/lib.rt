@@ -1,0 +1,6 @@
+// Whole numbers of three widths, as text and as floats.
+pub mod digits;
+pub mod float;
+pub mod parse;
+pub mod sign;
+pub mod width;
