@@ -1,3 +1,5 @@
 pub mod Widths
 pub mod Nearness
 pub mod Numerals
+pub mod Forms
+pub mod Stamp

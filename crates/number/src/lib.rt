@@ -2,5 +2,7 @@
 pub mod digits;
 pub mod float;
 pub mod parse;
+pub mod print;
+pub mod printed;
 pub mod sign;
 pub mod width;
