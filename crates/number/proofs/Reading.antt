@@ -6,9 +6,11 @@ use mathlib.Core.Logic.{_⊎_, inl, inr}
 use Prim.Native.Nat.{ℕ, zero, suc, _+_, _-_, _*_, _^_, _≤_, _<_}
 use native.Mathlib.Nat.{le-refl, le-trans}
 use native.Mathlib.Omega.{arith}
+use borrow.Author.Needs.{needs}
 use native.Mathlib.Numerals.{add-one}
 use lib.Dec.{eqb, ltb, leb}
 use lib.ListN.{length, take, drop, getD}
+use lib.Signed.{mag}
 use lib.Seq.{drop-cons, drop-length, take-length}
 use lib.IntN.{ℤ, pos, negsuc, negℤ}
 use Rattle.std.specs.declared.option.Option.{Option}
@@ -16,6 +18,10 @@ use Rattle.std.specs.declared.option.Option.the-variants.{Some, None}
 use Rattle.std.specs.Text.{asciiDigit}
 use Rattle.std.specs.shelf.Text.{allDigits}
 use Rattle.std.proofs.shelf.Tests.{ltb-false, lt-ltb, le-ltb, leb-true, eqb-true, eq-eqb, ne-eqb, cond-true, cond-false, cases-bool, and-from, and-right, and-left, and-parts, and-cases, or-left, or-right, or-from}
+use Rattle.std.specs.Written.{decimal}
+use Rattle.std.proofs.shelf.Numerals.{Numerals, numerals-by-fold, tells-allDigits}
+use Rattle.std.proofs.shelf.Decimals.{decimal-some, digits-decimal, value-decimal}
+use Rattle.number.specs.Forms.{signed-text, whole-text}
 use Rattle.number.specs.Widths.{Wide, signed, unsigned, has-sign, fits, if-fits, under-sign, narrow-whole}
 use Rattle.number.proofs.Narrowing.{keeps}
 use Rattle.number.specs.Numerals.{value-after, digits-after, numeral, digits-in, begins-minus, after-sign, whole-of-text, Sign, bare, plus, minus, sign-bytes, is-minus, Writes}
@@ -69,7 +75,7 @@ read-all n a i ds l e inv =
     sym (cond-true _ _ _ (lt-ltb n (2 ^ 64) l)) ∙ (ap (digits-after n) (sym (ap (λ (k : ℕ). drop k ds) e ∙ drop-length ds)) ∙ inv)
 
 -- what a test that came out says
-some-is : {A : Type 0} (b : Bool) (x y : A) → Some y ≡ cond b (Some x) None → (b ≡ true) × (x ≡ y)
+pub some-is : {A : Type 0} (b : Bool) (x y : A) → Some y ≡ cond b (Some x) None → (b ≡ true) × (x ≡ y)
 some-is true x y e = (refl, cc)
 some-is false x y e = let k : _≡_ {A = ℕ} 0 1 = cc in let z : ⊥ = omega arith in absurd z
 
@@ -104,9 +110,9 @@ module _ (w : Wide) (within : (z : ℤ) → fits w z ≡ true → fits (signed 6
     unread e =
         let z = under-sign minus (value-after 0 ds) in
         let no : (numeral ds && fits w z) ≡ false = elim (and-cases (allDigits ds) (ltb (value-after 0 ds) (2 ^ 64)) (none-is _ _ e)) [
-            | inl a ↦ and-left (numeral ds) (fits w z) (numeral-of ds some ∙ a)
-            | inr l ↦ and-right (numeral ds) (fits w z) (outside z (unfit minus (value-after 0 ds) (ltb-false _ _ l)))
-          ] in
+          | inl a ↦ and-left (numeral ds) (fits w z) (numeral-of ds some ∙ a)
+          | inr l ↦ and-right (numeral ds) (fits w z) (outside z (unfit minus (value-after 0 ds) (ltb-false _ _ l)))
+        ] in
         sym (cond-false _ _ _ no)
 
     module _ (n : ℕ) (read : Some n ≡ digits-after 0 ds) where
@@ -160,12 +166,12 @@ no-minus-text (b ∷ bs) m = sym (ne-eqb b 45 (m (omega arith)))
 pub sign-of : (text : List ℕ) → (s : Sign) × (text ≡ sign-bytes s ++ after-sign text) × (is-minus s ≡ begins-minus text)
 sign-of [] = (bare, refl, refl)
 sign-of (b ∷ bs) = elim (cases-bool (eqb b 45)) [
-    | inl e ↦ (minus, (λ i. eqb-true b 45 e i ∷ sym (cond-true (eqb b 43 || eqb b 45) bs (b ∷ bs) (or-right _ _ e)) i), sym e)
-    | inr m ↦ elim (cases-bool (eqb b 43)) [
-        | inl e ↦ (plus, (λ i. eqb-true b 43 e i ∷ sym (cond-true (eqb b 43 || eqb b 45) bs (b ∷ bs) (or-left _ _ e)) i), sym m)
-        | inr p ↦ (bare, sym (cond-false (eqb b 43 || eqb b 45) bs (b ∷ bs) (or-from _ _ p m)), sym m)
-      ]
+  | inl e ↦ (minus, (λ i. eqb-true b 45 e i ∷ sym (cond-true (eqb b 43 || eqb b 45) bs (b ∷ bs) (or-right _ _ e)) i), sym e)
+  | inr m ↦ elim (cases-bool (eqb b 43)) [
+    | inl e ↦ (plus, (λ i. eqb-true b 43 e i ∷ sym (cond-true (eqb b 43 || eqb b 45) bs (b ∷ bs) (or-left _ _ e)) i), sym m)
+    | inr p ↦ (bare, sym (cond-false (eqb b 43 || eqb b 45) bs (b ∷ bs) (or-from _ _ p m)), sym m)
   ]
+]
 
 -- bytes that begin with no sign
 abbrev pub Bare : List ℕ → Type 0
@@ -219,7 +225,7 @@ written w text z e =
       some = r .0;
       allowed = allowed-by _ (has-sign w) (ap (λ (m : Bool). m && not (has-sign w)) (s .2) ∙ p .0);
       value = ap (λ (m : Bool). under-sign m (value-after 0 ds)) (s .2) ∙ q .1;
-      room = sym (ap (fits w) (q .1)) ∙ r .1
+      room = sym (ap (fits w) (q .1)) ∙ r .1;
     }
 
 -- and what it writes is read
@@ -234,3 +240,27 @@ read w text z h =
     ∙ (cond-false _ None _ (refused-by (is-minus s) (has-sign w) (h .allowed))
     ∙ (ap (digits-in w (is-minus s)) (p .1)
     ∙ (cond-true _ _ _ (and-from (numeral ds) (fits w v) (h .some) (ap (fits w) (h .value) ∙ h .room)) ∙ ap Some (h .value)))))
+
+-- digits by themselves, as the shelf has them
+own : Numerals (λ ds. allDigits ds ≡ true) (value-after 0)
+own = numerals-by-fold _ tells-allDigits value-after (search needs)
+
+numeral-decimal : (n : ℕ) → n < 2 ^ 64 → numeral (decimal n) ≡ true
+numeral-decimal n h = some-digits (decimal n) (decimal-some n h) (digits-decimal own n h)
+  where
+    some-digits : (ds : List ℕ) → 0 < length ds → allDigits ds ≡ true → numeral ds ≡ true
+    some-digits [] l e = let z : ⊥ = omega arith in absurd z
+    some-digits (d ∷ ds) l e = e
+
+-- a number in decimal is read back
+pub reads-back : (minus : Bool) (n : ℕ) → n < 2 ^ 64 → fits (signed 63) (under-sign minus n) ≡ true → whole-of-text (signed 63) (signed-text minus n) ≡ Some (under-sign minus n)
+reads-back true n h f =
+    read (signed 63) (45 ∷ decimal n) (under-sign true n)
+    (record { sign = minus; digits = decimal n; whole = refl; some = numeral-decimal n h; allowed = refl; value = ap (under-sign true) (value-decimal own n h); room = f })
+reads-back false n h f =
+    read (signed 63) (decimal n) (under-sign false n)
+    (record { sign = bare; digits = decimal n; whole = refl; some = numeral-decimal n h; allowed = refl; value = ap (under-sign false) (value-decimal own n h); room = f })
+
+pub whole-back : (z : ℤ) → mag z < 2 ^ 63 → whole-of-text (signed 63) (whole-text z) ≡ Some z
+whole-back (pos n) h = reads-back false n (omega arith) (lt-ltb n (2 ^ 63) h)
+whole-back (negsuc n) h = reads-back true (suc n) (omega arith) (lt-ltb n (2 ^ 63) h)

@@ -3,3 +3,4 @@ pub mod Nearness
 pub mod Numerals
 pub mod Forms
 pub mod Stamp
+pub mod Back

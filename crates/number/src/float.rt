@@ -3,7 +3,6 @@ ghost use mathlib.Core.Path.{_≡_};
 ghost use lib.Ieee as Ieee;
 ghost use lib.Ieee.{binary64};
 ghost use Rattle.number.specs.Nearness.{nearest-float, zero-float};
-
 use std::num::f64_from_bits_with_nan;
 use std::num::nearest_i64_to_f64;
 

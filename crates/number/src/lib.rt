@@ -5,4 +5,6 @@ pub mod parse;
 pub mod print;
 pub mod printed;
 pub mod sign;
+#[cfg(test)]
+mod tests;
 pub mod width;

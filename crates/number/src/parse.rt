@@ -5,7 +5,6 @@ ghost use Rattle.std.specs.Options.{mapped};
 ghost use Rattle.std.specs.declared.option.Option.the-variants.{Some};
 ghost use Rattle.number.specs.Widths.{signed, under-sign, if-fits};
 ghost use Rattle.number.specs.Numerals.{digits-in, whole-of-text, Writes};
-
 use crate::digits::read_digits;
 use crate::sign::split_sign;
 use crate::width::Width;

@@ -4,16 +4,14 @@ ghost use mathlib.Core.Bool.{true};
 ghost use Prim.Native.Nat.{ℕ, _+_, _-_, _^_, _≤_, _<_};
 ghost use lib.IntN.{ℤ};
 ghost use lib.ListN.{length, drop};
-ghost use lib.Ieee as Ieee;
 ghost use Rattle.std.specs.Options.{mapped};
 ghost use Rattle.std.specs.Written.{decimal};
 ghost use Rattle.std.specs.declared.option.Option.the-variants.{Some, None};
 ghost use Rattle.number.specs.Forms.{signed-text, whole-text, whole-size, float-text};
 ghost use Rattle.number.specs.Stamp.{printed-text};
+ghost use Rattle.number.specs.Back.{Reads-back};
 ghost use Rattle.number.specs.Widths.{signed};
-ghost use Rattle.number.specs.Nearness.{nearest-float};
 ghost use Rattle.number.specs.Numerals.{whole-of-text};
-
 use crate::printed::Printed;
 use std::num::saturating_f64_to_u64;
 
@@ -29,6 +27,7 @@ impl Printed {
 // A whole number in decimal.
 pub fn print_whole(n: i64) -> Printed
     ensures text { λ r. ⌜ «printed-text» r ≡ «whole-text» n ⌝ }
+    ensures back { λ r. ⌜ «whole-of-text» (signed 63) («printed-text» r) ≡ Some n ⌝ }
 {
     print_signed(n < 0, n.unsigned_abs())
 }
@@ -37,6 +36,7 @@ pub fn print_whole(n: i64) -> Printed
 // float, which has no text form: a reader refuses it by number 8.
 pub fn print_float(x: f64) -> Option<Printed>
     ensures text { λ r. ⌜ mapped «printed-text» r ≡ «float-text» x ⌝ }
+    ensures back { λ _. ⌜ «Reads-back» x ⌝ }
 {
     let (minus, size) = whole_size(x)?;
     Some(print_signed(minus, size))

@@ -3,10 +3,9 @@ ghost use mathlib.Core.Path.{_≡_};
 ghost use mathlib.Core.Bool.{true};
 ghost use lib.IntN.{ℤ, pos};
 ghost use Rattle.number.specs.Widths.{Wide, signed, unsigned, has-sign, fits, narrow-float, narrow-whole};
-
 use std::num::saturating_f64_to_i64;
-use std::num::saturating_f64_to_u32;
 use std::num::saturating_f64_to_u8;
+use std::num::saturating_f64_to_u32;
 
 // A type of whole numbers, all of which fit 64 bits with a sign.
 pub trait Width: Sized {

@@ -23,10 +23,11 @@ returns-in-Break-number c =
 
 pub loop-digit-again : need.loop-digit-again
 loop-digit-again c =
-    let l = c .loop-digit in
-    (omega (arith, c .in-Continue-number .ensures tt),
-    read-more (l .number) (c .args .after) (l .digit-index) (c .args .digits .now) (c .loop-digit-test .taken) (l .inv .1) (c .in-Continue-number .number)
-    (sym (c .is-ascii-digit .ensures .value) ∙ c .if-not-is-ascii-digit .left) (omega (arith, c .in-Continue-number .ensures tt, c .in-Continue-tens .ensures tt, c .from .ensures)))
+    let l = c .loop-digit in (
+      omega (arith, c .in-Continue-number .ensures tt),
+      read-more (l .number) (c .args .after) (l .digit-index) (c .args .digits .now) (c .loop-digit-test .taken) (l .inv .1) (c .in-Continue-number .number)
+          (sym (c .is-ascii-digit .ensures .value) ∙ c .if-not-is-ascii-digit .left) (omega (arith, c .in-Continue-number .ensures tt, c .in-Continue-tens .ensures tt, c .from .ensures)),
+    )
 
 pub returns : need.returns
 returns c =

@@ -7,10 +7,10 @@ pub returns : need.returns
 returns c =
     let d = c .write-digits-start in
     elim (c .if-minus .came) [
-    | then-minus w ↦
-        with-minus (d .last .bytes) (c .if-minus .bytes) (c .args .minus) (c .args .size) (d .result) (c .if-minus .start) (w .bytes-is) (w .start-is)
-        (w .if-minus .taken) (d .ensures .room) (omega arith) (d .ensures .digits)
-    | else-minus w ↦
-        without-minus (d .last .bytes) (c .if-minus .bytes) (c .args .minus) (c .args .size) (d .result) (c .if-minus .start) (w .bytes-is) (w .start-is)
-        (w .if-minus .left) (d .ensures .digits)
+      | then-minus w ↦
+          with-minus (d .last .bytes) (c .if-minus .bytes) (c .args .minus) (c .args .size) (d .result) (c .if-minus .start) (w .bytes-is) (w .start-is)
+          (w .if-minus .taken) (d .ensures .room) (omega arith) (d .ensures .digits)
+      | else-minus w ↦
+          without-minus (d .last .bytes) (c .if-minus .bytes) (c .args .minus) (c .args .size) (d .result) (c .if-minus .start) (w .bytes-is) (w .start-is)
+          (w .if-minus .left) (d .ensures .digits)
     ]

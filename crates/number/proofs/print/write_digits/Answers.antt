@@ -10,9 +10,12 @@ use Rattle.number.proofs.print.write_digits.Needs as need
 
 pub loop-left-holds : need.loop-left-holds
 loop-left-holds c =
-    let xs = c .args .bytes .now in
-    (omega arith, c .told-bytes, omega arith,
-     ap (λ (l : List ℕ). decimal (c .args .size) ++ l) (ap (λ (k : ℕ). drop k xs) (sym (c .told-bytes)) ∙ drop-length xs) ∙ append-nil (decimal (c .args .size)))
+    let xs = c .args .bytes .now in (
+      omega arith,
+      c .told-bytes,
+      omega arith,
+      ap (λ (l : List ℕ). decimal (c .args .size) ++ l) (ap (λ (k : ℕ). drop k xs) (sym (c .told-bytes)) ∙ drop-length xs) ∙ append-nil (decimal (c .args .size)),
+    )
 
 pub sub-start : need.sub-start
 sub-start c = let i = c .loop-left .inv in omega (arith, room (c .loop-left .bytes) (c .args .size) (c .loop-left .left) (c .loop-left .start) (c .pre) (i .1) (i .0) (i .2) (i .3))
