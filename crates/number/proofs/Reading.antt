@@ -17,14 +17,14 @@ use Rattle.std.specs.declared.option.Option.{Option}
 use Rattle.std.specs.declared.option.Option.the-variants.{Some, None}
 use Rattle.std.specs.Text.{asciiDigit}
 use Rattle.std.specs.shelf.Text.{allDigits}
-use Rattle.std.proofs.shelf.Tests.{ltb-false, lt-ltb, le-ltb, leb-true, eqb-true, eq-eqb, ne-eqb, cond-true, cond-false, cases-bool, and-from, and-right, and-left, and-parts, and-cases, or-left, or-right, or-from}
+use Rattle.std.proofs.shelf.Tests.{ltb-false, lt-ltb, le-ltb, leb-true, eqb-true, eq-eqb, ne-eqb, cond-true, cond-false, cond-both, cases-bool, and-from, and-right, and-left, and-parts, and-cases, or-left, or-right, or-from}
 use Rattle.std.specs.Written.{decimal}
 use Rattle.std.proofs.shelf.Numerals.{Numerals, numerals-by-fold, tells-allDigits}
 use Rattle.std.proofs.shelf.Decimals.{decimal-some, digits-decimal, value-decimal}
 use Rattle.number.specs.Forms.{signed-text, whole-text}
 use Rattle.number.specs.Widths.{Wide, signed, unsigned, has-sign, fits, if-fits, under-sign, narrow-whole}
 use Rattle.number.proofs.Narrowing.{keeps}
-use Rattle.number.specs.Numerals.{value-after, digits-after, numeral, digits-in, begins-minus, after-sign, whole-of-text, Sign, bare, plus, minus, sign-bytes, is-minus, Writes}
+use Rattle.number.specs.Numerals.{value-after, digits-after, numeral, digits-in, sign-of, after-sign, whole-of-text, Sign, bare, plus, minus, sign-bytes, is-minus, Writes}
 
 -- digits go on from the number before them
 pub value-append : (n : ℕ) (xs ys : List ℕ) → value-after n (xs ++ ys) ≡ value-after (value-after n xs) ys
@@ -154,40 +154,51 @@ no-sign [] p m = refl
 no-sign (b ∷ bs) p m = sym (cond-false _ _ _ (or-from (eqb b 43) (eqb b 45) (ne-eqb b 43 (p (omega arith))) (ne-eqb b 45 (m (omega arith)))))
 
 -- whether it begins with a minus
-pub is-minus-text : (text : List ℕ) → 1 ≤ length text → getD text 0 0 ≡ 45 → true ≡ begins-minus text
+pub is-minus-text : (text : List ℕ) → 1 ≤ length text → getD text 0 0 ≡ 45 → true ≡ is-minus (sign-of text)
 is-minus-text [] h e = let z : ⊥ = omega arith in absurd z
-is-minus-text (b ∷ bs) h e = sym (eq-eqb b 45 e)
+is-minus-text (b ∷ bs) h e = sym (ap is-minus (cond-false (eqb b 43) plus _ (ne-eqb b 43 (λ q. omega arith)) ∙ cond-true (eqb b 45) minus bare (eq-eqb b 45 e)))
 
-pub no-minus-text : (text : List ℕ) → (1 ≤ length text → getD text 0 0 ≡ 45 → ⊥) → false ≡ begins-minus text
+pub no-minus-text : (text : List ℕ) → (1 ≤ length text → getD text 0 0 ≡ 45 → ⊥) → false ≡ is-minus (sign-of text)
 no-minus-text [] m = refl
-no-minus-text (b ∷ bs) m = sym (ne-eqb b 45 (m (omega arith)))
+no-minus-text (b ∷ bs) m = sym (cond-both (eqb b 43) plus (cond (eqb b 45) minus bare) (λ s. is-minus s ≡ false) (λ _. refl) (λ _. ap is-minus (cond-false (eqb b 45) minus bare (ne-eqb b 45 (m (omega arith))))))
 
--- every text is a sign, or none, and what follows it
-pub sign-of : (text : List ℕ) → (s : Sign) × (text ≡ sign-bytes s ++ after-sign text) × (is-minus s ≡ begins-minus text)
-sign-of [] = (bare, refl, refl)
-sign-of (b ∷ bs) = elim (cases-bool (eqb b 45)) [
-  | inl e ↦ (minus, (λ i. eqb-true b 45 e i ∷ sym (cond-true (eqb b 43 || eqb b 45) bs (b ∷ bs) (or-right _ _ e)) i), sym e)
-  | inr m ↦ elim (cases-bool (eqb b 43)) [
-    | inl e ↦ (plus, (λ i. eqb-true b 43 e i ∷ sym (cond-true (eqb b 43 || eqb b 45) bs (b ∷ bs) (or-left _ _ e)) i), sym m)
-    | inr p ↦ (bare, sym (cond-false (eqb b 43 || eqb b 45) bs (b ∷ bs) (or-from _ _ p m)), sym m)
+-- every text is its sign and what follows that
+pub sign-front : (text : List ℕ) → sign-bytes (sign-of text) ++ after-sign text ≡ text
+sign-front [] = refl
+sign-front (b ∷ bs) = elim (cases-bool (eqb b 43)) [
+    | inl p ↦
+        ap (λ (s : Sign). sign-bytes s ++ after-sign (b ∷ bs)) (cond-true _ _ _ p)
+        ∙ (λ i. sym (eqb-true b 43 p) i ∷ cond-true (eqb b 43 || eqb b 45) bs (b ∷ bs) (or-left _ _ p) i)
+    | inr p ↦ elim (cases-bool (eqb b 45)) [
+        | inl m ↦
+            ap (λ (s : Sign). sign-bytes s ++ after-sign (b ∷ bs)) (cond-false _ _ _ p ∙ cond-true (eqb b 45) minus bare m)
+            ∙ (λ i. sym (eqb-true b 45 m) i ∷ cond-true (eqb b 43 || eqb b 45) bs (b ∷ bs) (or-right _ _ m) i)
+        | inr m ↦
+            ap (λ (s : Sign). sign-bytes s ++ after-sign (b ∷ bs)) (cond-false _ _ _ p ∙ cond-false (eqb b 45) minus bare m)
+            ∙ cond-false (eqb b 43 || eqb b 45) bs (b ∷ bs) (or-from _ _ p m)
+      ]
   ]
-]
 
 -- bytes that begin with no sign
 abbrev pub Bare : List ℕ → Type 0
-Bare bs = (begins-minus bs ≡ false) × (after-sign bs ≡ bs)
+Bare bs = (sign-of bs ≡ bare) × (after-sign bs ≡ bs)
 
 -- a sign before such bytes is the text's
-pub of-sign : (s : Sign) (bs : List ℕ) → Bare bs → (begins-minus (sign-bytes s ++ bs) ≡ is-minus s) × (after-sign (sign-bytes s ++ bs) ≡ bs)
+pub of-sign : (s : Sign) (bs : List ℕ) → Bare bs → (sign-of (sign-bytes s ++ bs) ≡ s) × (after-sign (sign-bytes s ++ bs) ≡ bs)
 of-sign bare bs h = h
 of-sign plus bs h = (refl, refl)
 of-sign minus bs h = (refl, refl)
+
+pub other-bare : (b : ℕ) (bs : List ℕ) → (b ≡ 43 → ⊥) → (b ≡ 45 → ⊥) → Bare (b ∷ bs)
+other-bare b bs p m =
+    (cond-false (eqb b 43) plus _ (ne-eqb b 43 p) ∙ cond-false (eqb b 45) minus bare (ne-eqb b 45 m),
+     cond-false _ _ _ (or-from _ _ (ne-eqb b 43 p) (ne-eqb b 45 m)))
 
 -- what begins with a digit begins with no sign
 pub digit-bare : (b : ℕ) (bs : List ℕ) → asciiDigit b ≡ true → Bare (b ∷ bs)
 digit-bare b bs e =
     let low : 48 ≤ b = leb-true _ _ (and-parts (leb 48 b) (leb b 57) e .0) in
-    (ne-eqb b 45 (λ q. omega arith), cond-false _ _ _ (or-from _ _ (ne-eqb b 43 (λ q. omega arith)) (ne-eqb b 45 (λ q. omega arith))))
+    other-bare b bs (λ q. omega arith) (λ q. omega arith)
 
 pub numeral-bare : (ds : List ℕ) → numeral ds ≡ true → Bare ds
 numeral-bare [] e = absurd (true≢false (sym e))
@@ -212,20 +223,20 @@ unrefused false o z e = (refl, e)
 -- what is read from a text, the text writes
 pub written : (w : Wide) (text : List ℕ) (z : ℤ) → whole-of-text w text ≡ Some z → Writes w text z
 written w text z e =
-    let s = sign-of text in
+    let m = is-minus (sign-of text) in
     let ds = after-sign text in
-    let p = unrefused (begins-minus text && not (has-sign w)) (digits-in w (begins-minus text) ds) z e in
-    let v = under-sign (begins-minus text) (value-after 0 ds) in
+    let p = unrefused (m && not (has-sign w)) (digits-in w m ds) z e in
+    let v = under-sign m (value-after 0 ds) in
     let q = some-is (numeral ds && fits w v) v z (sym (p .1)) in
     let r = and-parts (numeral ds) (fits w v) (q .0) in
     record {
-      sign = s .0;
+      sign = sign-of text;
       digits = ds;
-      whole = s .1;
+      whole = sym (sign-front text);
       some = r .0;
-      allowed = allowed-by _ (has-sign w) (ap (λ (m : Bool). m && not (has-sign w)) (s .2) ∙ p .0);
-      value = ap (λ (m : Bool). under-sign m (value-after 0 ds)) (s .2) ∙ q .1;
-      room = sym (ap (fits w) (q .1)) ∙ r .1;
+      allowed = allowed-by m (has-sign w) (p .0);
+      value = q .1;
+      room = sym (ap (fits w) (q .1)) ∙ r .1
     }
 
 -- and what it writes is read
@@ -236,7 +247,7 @@ read w text z h =
     let p = of-sign s ds (numeral-bare ds (h .some)) in
     let v = under-sign (is-minus s) (value-after 0 ds) in
     ap (whole-of-text w) (h .whole)
-    ∙ (ap (λ (m : Bool). cond (m && not (has-sign w)) None (digits-in w m (after-sign (sign-bytes s ++ ds)))) (p .0)
+    ∙ (ap (λ (t : Sign). cond (is-minus t && not (has-sign w)) None (digits-in w (is-minus t) (after-sign (sign-bytes s ++ ds)))) (p .0)
     ∙ (cond-false _ None _ (refused-by (is-minus s) (has-sign w) (h .allowed))
     ∙ (ap (digits-in w (is-minus s)) (p .1)
     ∙ (cond-true _ _ _ (and-from (numeral ds) (fits w v) (h .some) (ap (fits w) (h .value) ∙ h .room)) ∙ ap Some (h .value)))))

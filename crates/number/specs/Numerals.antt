@@ -30,19 +30,6 @@ digits-in w minus ds =
     let z = under-sign minus (value-after 0 ds) in
     cond (numeral ds && fits w z) (Some z) None
 
--- whether a text begins with a minus, and what follows its sign, if it has one
-abbrev pub begins-minus : List ℕ → Bool
-begins-minus [] = false
-begins-minus (b ∷ bs) = eqb b 45
-
-abbrev pub after-sign : List ℕ → List ℕ
-after-sign [] = []
-after-sign (b ∷ bs) = cond (eqb b 43 || eqb b 45) bs (b ∷ bs)
-
--- The number that a text writes in a width: an optional sign, a minus only where the width has one, and digits.
-abbrev pub whole-of-text : Wide → List ℕ → Option ℤ
-whole-of-text w text = cond (begins-minus text && not (has-sign w)) None (digits-in w (begins-minus text) (after-sign text))
-
 -- the ways to write a sign
 pub data Sign : Type 0 where
   bare plus minus : Sign
@@ -56,6 +43,21 @@ abbrev pub is-minus : Sign → Bool
 is-minus bare = false
 is-minus plus = false
 is-minus minus = true
+
+-- the sign that a text begins with, and what follows it
+abbrev pub sign-of : List ℕ → Sign
+sign-of [] = bare
+sign-of (b ∷ bs) = cond (eqb b 43) plus (cond (eqb b 45) minus bare)
+
+abbrev pub after-sign : List ℕ → List ℕ
+after-sign [] = []
+after-sign (b ∷ bs) = cond (eqb b 43 || eqb b 45) bs (b ∷ bs)
+
+-- The number that a text writes in a width: an optional sign, a minus only where the width has one, and digits.
+abbrev pub whole-of-text : Wide → List ℕ → Option ℤ
+whole-of-text w text =
+    let minus = is-minus (sign-of text) in
+    cond (minus && not (has-sign w)) None (digits-in w minus (after-sign text))
 
 -- The text writes the number z of the width w: it is a sign that the width has, and some digits; z is their number under that sign, and fits.
 pub record Writes (w : Wide) (text : List ℕ) (z : ℤ) : Type 0 where
