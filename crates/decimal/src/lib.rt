@@ -1,0 +1,5 @@
+// Number text as a float.
+pub mod fault;
+//
+//
+mod split;
