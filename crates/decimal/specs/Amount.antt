@@ -3,7 +3,7 @@ use mathlib.Core.Bool.{Bool, true, false, cond, _&&_, _||_}
 use mathlib.Core.List.{List, [], _∷_, _++_}
 use Prim.Native.Nat.{ℕ, suc, _*_, _^_}
 use lib.Dec.{eqb, ltb, leb}
-use lib.IntN.{ℤ, pos, negsuc, _-ℤ_}
+use lib.IntN.{ℤ, pos, negsuc, natAbs, _-ℤ_}
 use lib.ListN.{length}
 use lib.Ieee.{Float, binary64, round}
 use Rattle.std.specs.declared.option.Option.{Option}
@@ -35,10 +35,9 @@ power-of bs = cond (numeral (after-sign bs)) (Some (is-minus (sign-of bs), after
 abbrev pub scale : Bool → List ℕ → List ℕ → ℤ
 scale down exponent after-point = under-sign down (value-after 0 exponent) -ℤ pos (length after-point)
 
--- a power of ten that is a float exactly
+-- from -22 to 22: that power of ten, or one over it, is a float exactly
 abbrev pub in-reach : ℤ → Bool
-in-reach (pos k) = leb k 22
-in-reach (negsuc k) = ltb k 22
+in-reach e = leb (natAbs e) 22
 
 -- at most four exponent digits, a number below 10 ^ 15, and a scale in reach unless that number is 0
 abbrev pub within : ℕ → ℕ → ℤ → Bool

@@ -1,5 +1,4 @@
 // Number text as a float.
+mod amount;
 pub mod fault;
-//
-//
 mod split;
