@@ -1,3 +1,5 @@
 pub mod Parting
 pub mod Tens
 pub mod Scales
+pub mod Amounts
+pub mod Readings

@@ -17,7 +17,7 @@ use Rattle.std.specs.declared.option.Option.the-variants.{Some, None}
 use Rattle.std.proofs.shelf.Lists.{take-more, take-append-drop, nil-from-length}
 use Rattle.std.proofs.shelf.Tests.{leb-true, eqb-true, cases-eq, eq-eqb, ne-eqb, cond-true, cond-false, cases-bool, and-from, and-left, and-right, and-parts, or-left, or-right, or-from}
 use Rattle.number.specs.Numerals.{Sign, sign-bytes, is-minus, sign-of, after-sign, numeral}
-use Rattle.number.proofs.Reading.{Bare, of-sign, other-bare, digit-bare, numeral-bare, sign-front}
+use Rattle.number.proofs.Reading.{some-is, Bare, of-sign, other-bare, digit-bare, numeral-bare, sign-front}
 use Rattle.decimal.specs.Amount.{heading, power-of}
 use Rattle.decimal.specs.Grammar.{Fraction, pointless, point, Exponent, absent, power, Literal, places, fraction-bytes, exponent-bytes, spelled, sound-exponent, sound, front-digits, past-digits, front-fraction, past-fraction, exponent-of, closed, literal}
 
@@ -97,7 +97,7 @@ no-point (b ∷ bs) n =
 pub past-none : (bs : List ℕ) → length (past-digits bs) ≡ 0 → front-digits bs ≡ bs
 past-none bs e = sym (append-nil (front-digits bs)) ∙ (ap (λ (l : List ℕ). front-digits bs ++ l) (sym (nil-from-length (past-digits bs) e)) ∙ front-past bs)
 
-numeral-some : (ds : List ℕ) → (length ds ≡ 0 → ⊥) → allDigits ds ≡ true → numeral ds ≡ true
+pub numeral-some : (ds : List ℕ) → (length ds ≡ 0 → ⊥) → allDigits ds ≡ true → numeral ds ≡ true
 numeral-some [] n a = absurd (n refl)
 numeral-some (d ∷ ds) n a = a
 
@@ -148,3 +148,12 @@ letter-off (b ∷ bs) h e = ap power-of (rest-is b bs) ∙ heading-of b bs (elim
     | inl q ↦ or-right (eqb b 101) (eqb b 69) (eq-eqb b 69 q)
     | inr n ↦ or-left (eqb b 101) (eqb b 69) (eq-eqb b 101 (e n))
   ])
+
+-- an exponent that was found has digits
+pub exponent-sound : (bs : List ℕ) (x : Exponent) → exponent-of bs ≡ Some x → sound-exponent x ≡ true
+exponent-sound [] x e = ap sound-exponent (some-same (sym e)) where
+    some-same : Some x ≡ Some absent → x ≡ absent
+    some-same q = cc
+exponent-sound (b ∷ bs) x e =
+    let p = some-is ((eqb b 101 || eqb b 69) && numeral (after-sign bs)) (power (eqb b 69) (sign-of bs) (after-sign bs)) x (sym e) in
+    sym (ap sound-exponent (p .1)) ∙ and-parts (eqb b 101 || eqb b 69) (numeral (after-sign bs)) (p .0) .1

@@ -7,7 +7,7 @@ ghost use lib.Ieee.Exact.{HasValue};
 ghost use Rattle.std.specs.shelf.Text.{allDigits};
 ghost use Rattle.std.specs.declared.option.Option.the-variants.{Some, None};
 ghost use Rattle.number.specs.Widths.{under-sign};
-ghost use Rattle.decimal.specs.Amount.{in-reach, nearest-decimal, amount as «amount-within»};
+ghost use Rattle.decimal.specs.Amount.{in-reach, nearest-decimal, amount};
 
 use number::digits::read_digits;
 
@@ -43,6 +43,31 @@ const LIMIT: u64 = 1_000_000_000_000_000;
 
 // An exponent of four digits does not make up for as many places.
 const MANY_PLACES: usize = 20_000;
+
+// All digits as one whole number times ten to the scale. None where there are more than four
+// exponent digits, where the number is 10^15 or more, or where the scale is out of reach and the
+// number is not 0.
+pub(crate) fn read_amount(whole: &[u8], fraction: &[u8], down: bool, exponent: &[u8]) -> Option<f64>
+    requires wholes { ⌜ allDigits (now whole) ≡ true ⌝ }
+    requires fractions { ⌜ allDigits (now fraction) ≡ true ⌝ }
+    requires exponents { ⌜ allDigits (now exponent) ≡ true ⌝ }
+    ensures { λ r. ⌜ r ≡ amount false (now (whole .entry)) (now (fraction .entry)) down (now (exponent .entry)) ⌝ }
+{
+    if exponent.len() > 4 {
+        return None;
+    }
+    let before_point = read_digits(0, whole)?;
+    let number = read_digits(before_point, fraction)?;
+    if number >= LIMIT {
+        return None;
+    }
+    if number == 0 {
+        return Some(0.0);
+    }
+    let power = read_digits(0, exponent)?;
+    let scale = find_scale(down, power, fraction.len())?;
+    Some(scale_by_ten(number, scale))
+}
 
 // The exponent less the number of places, where it is from -22 to 22.
 fn find_scale(down: bool, power: u64, places: usize) -> Option<i32>

@@ -1,4 +1,5 @@
 // Number text as a float.
 mod amount;
 pub mod fault;
+pub mod parse;
 mod split;

@@ -19,7 +19,7 @@ use Rattle.std.specs.Text.{asciiDigit}
 use Rattle.std.specs.shelf.Text.{allDigits}
 use Rattle.std.proofs.shelf.Tests.{ltb-false, lt-ltb, le-ltb, leb-true, eqb-true, eq-eqb, ne-eqb, cond-true, cond-false, cond-both, cases-bool, and-from, and-right, and-left, and-parts, and-cases, or-left, or-right, or-from}
 use Rattle.std.specs.Written.{decimal}
-use Rattle.std.proofs.shelf.Numerals.{Numerals, numerals-by-fold, tells-allDigits}
+use Rattle.std.proofs.shelf.Numerals.{Numerals, numerals-by-fold, tells-allDigits, value-short}
 use Rattle.std.proofs.shelf.Decimals.{decimal-some, digits-decimal, value-decimal}
 use Rattle.number.specs.Forms.{signed-text, whole-text}
 use Rattle.number.specs.Widths.{Wide, signed, unsigned, has-sign, fits, if-fits, under-sign, narrow-whole}
@@ -74,14 +74,24 @@ pub read-all : (n a i : ℕ) (ds : List ℕ) → n < 2 ^ 64 → i ≡ length ds 
 read-all n a i ds l e inv =
     sym (cond-true _ _ _ (lt-ltb n (2 ^ 64) l)) ∙ (ap (digits-after n) (sym (ap (λ (k : ℕ). drop k ds) e ∙ drop-length ds)) ∙ inv)
 
--- what a test that came out says
+-- what a test says that was passed, and one that was not
 pub some-is : {A : Type 0} (b : Bool) (x y : A) → Some y ≡ cond b (Some x) None → (b ≡ true) × (x ≡ y)
 some-is true x y e = (refl, cc)
 some-is false x y e = let k : _≡_ {A = ℕ} 0 1 = cc in let z : ⊥ = omega arith in absurd z
 
-none-is : {A : Type 0} (b : Bool) (x : A) → None ≡ cond b (Some x) None → b ≡ false
+pub none-is : {A : Type 0} (b : Bool) (x : A) → None ≡ cond b (Some x) None → b ≡ false
 none-is true x e = let k : _≡_ {A = ℕ} 0 1 = cc in let z : ⊥ = omega arith in absurd z
 none-is false x e = refl
+
+-- digits that were read, and digits that write too large a number
+pub read-value : (n m : ℕ) (ds : List ℕ) → Some m ≡ digits-after n ds → value-after n ds ≡ m
+read-value n m ds e = some-is (allDigits ds && ltb (value-after n ds) (2 ^ 64)) (value-after n ds) m e .1
+
+pub large-value : (n : ℕ) (ds : List ℕ) → allDigits ds ≡ true → None ≡ digits-after n ds → 2 ^ 64 ≤ value-after n ds
+large-value n ds a e = elim (and-cases (allDigits ds) (ltb (value-after n ds) (2 ^ 64)) (none-is _ _ e)) [
+    | inl b ↦ absurd (true≢false (sym a ∙ b))
+    | inr l ↦ ltb-false _ _ l
+  ]
 
 -- a number of 2 ^ 64 or more is no signed number of 64 bits, with either sign
 unfit : (minus : Bool) (n : ℕ) → 2 ^ 64 ≤ n → fits (signed 63) (under-sign minus n) ≡ false
@@ -255,6 +265,10 @@ read w text z h =
 -- digits by themselves, as the shelf has them
 own : Numerals (λ ds. allDigits ds ≡ true) (value-after 0)
 own = numerals-by-fold _ tells-allDigits value-after (search needs)
+
+-- a number of at most k digits
+pub value-below : (ds : List ℕ) (k : ℕ) → allDigits ds ≡ true → length ds ≤ k → value-after 0 ds < 10 ^ k
+value-below ds k a l = value-short own ds k a l
 
 numeral-decimal : (n : ℕ) → n < 2 ^ 64 → numeral (decimal n) ≡ true
 numeral-decimal n h = some-digits (decimal n) (decimal-some n h) (digits-decimal own n h)
