@@ -78,7 +78,7 @@ module _ (whole fraction exponent : List ℕ) (down : Bool) where
           out-of-reach e =
               let r : in-reach (scale down exponent fraction) ≡ false = sym (ap in-reach scale-is) ∙ none-is _ _ e in
               sym (cond-false _ _ _ (and-right (leb (length exponent) 4) _ (and-right (ltb (value-after 0 (whole ++ fraction)) (10 ^ 15)) _
-                (or-from (eqb (value-after 0 (whole ++ fraction)) 0) _ (ne-eqb _ _ (λ z. some (sym number-is ∙ z))) r))))
+              (or-from (eqb (value-after 0 (whole ++ fraction)) 0) _ (ne-eqb _ _ (λ z. some (sym number-is ∙ z))) r))))
 
           -- and one in reach
           module _ (s : ℤ) (f : Some s ≡ cond (in-reach (under-sign down power -ℤ pos (length fraction))) (Some (under-sign down power -ℤ pos (length fraction))) None) where

@@ -3,3 +3,4 @@ pub mod Tens
 pub mod Scales
 pub mod Amounts
 pub mod Readings
+pub mod Literals

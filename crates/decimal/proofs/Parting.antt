@@ -25,25 +25,25 @@ use Rattle.decimal.specs.Grammar.{Fraction, pointless, point, Exponent, absent
 pub all-append : (xs ys : List ℕ) → allDigits (xs ++ ys) ≡ (allDigits xs && allDigits ys)
 all-append [] ys = refl
 all-append (x ∷ xs) ys = elim (cases-bool (asciiDigit x)) [
-    | inl e ↦ ap (λ (b : Bool). b && allDigits (xs ++ ys)) e ∙ (all-append xs ys ∙ ap (λ (b : Bool). (b && allDigits xs) && allDigits ys) (sym e))
-    | inr e ↦ ap (λ (b : Bool). b && allDigits (xs ++ ys)) e ∙ ap (λ (b : Bool). (b && allDigits xs) && allDigits ys) (sym e)
-  ]
+  | inl e ↦ ap (λ (b : Bool). b && allDigits (xs ++ ys)) e ∙ (all-append xs ys ∙ ap (λ (b : Bool). (b && allDigits xs) && allDigits ys) (sym e))
+  | inr e ↦ ap (λ (b : Bool). b && allDigits (xs ++ ys)) e ∙ ap (λ (b : Bool). (b && allDigits xs) && allDigits ys) (sym e)
+]
 
 -- the digits in front, and what follows, are the bytes
 pub front-past : (bs : List ℕ) → front-digits bs ++ past-digits bs ≡ bs
 front-past [] = refl
 front-past (b ∷ bs) = elim (cases-bool (asciiDigit b)) [
-    | inl e ↦ (λ i. cond-true (asciiDigit b) (b ∷ front-digits bs) [] e i ++ cond-true (asciiDigit b) (past-digits bs) (b ∷ bs) e i) ∙ ap (λ (l : List ℕ). b ∷ l) (front-past bs)
-    | inr e ↦ (λ i. cond-false (asciiDigit b) (b ∷ front-digits bs) [] e i ++ cond-false (asciiDigit b) (past-digits bs) (b ∷ bs) e i)
-  ]
+  | inl e ↦ (λ i. cond-true (asciiDigit b) (b ∷ front-digits bs) [] e i ++ cond-true (asciiDigit b) (past-digits bs) (b ∷ bs) e i) ∙ ap (λ (l : List ℕ). b ∷ l) (front-past bs)
+  | inr e ↦ (λ i. cond-false (asciiDigit b) (b ∷ front-digits bs) [] e i ++ cond-false (asciiDigit b) (past-digits bs) (b ∷ bs) e i)
+]
 
 -- they are digits
 pub all-front : (bs : List ℕ) → allDigits (front-digits bs) ≡ true
 all-front [] = refl
 all-front (b ∷ bs) = elim (cases-bool (asciiDigit b)) [
-    | inl e ↦ ap allDigits (cond-true (asciiDigit b) (b ∷ front-digits bs) [] e) ∙ and-from _ _ e (all-front bs)
-    | inr e ↦ ap allDigits (cond-false (asciiDigit b) (b ∷ front-digits bs) [] e)
-  ]
+  | inl e ↦ ap allDigits (cond-true (asciiDigit b) (b ∷ front-digits bs) [] e) ∙ and-from _ _ e (all-front bs)
+  | inr e ↦ ap allDigits (cond-false (asciiDigit b) (b ∷ front-digits bs) [] e)
+]
 
 -- digits before bytes that begin with none are the digits in front
 pub front-is : (ds bs : List ℕ) → allDigits ds ≡ true → front-digits bs ≡ [] → front-digits (ds ++ bs) ≡ ds
@@ -67,9 +67,10 @@ all-more bs i h a e =
 -- the digits end at a byte that is none, or where the text ends
 pub ends-at : (bs : List ℕ) (i : ℕ) → i < length bs → allDigits (take i bs) ≡ true → asciiDigit (getD bs i 0) ≡ false → (take i bs ≡ front-digits bs) × (drop i bs ≡ past-digits bs)
 ends-at bs i h a e =
-    let n : front-digits (drop i bs) ≡ [] = ap front-digits (drop-cons bs i 0 h) ∙ cond-false _ _ _ e in
-    (sym (front-is (take i bs) (drop i bs) a n) ∙ ap front-digits (take-append-drop i bs),
-     sym (past-is (take i bs) (drop i bs) a n) ∙ ap past-digits (take-append-drop i bs))
+    let n : front-digits (drop i bs) ≡ [] = ap front-digits (drop-cons bs i 0 h) ∙ cond-false _ _ _ e in (
+      sym (front-is (take i bs) (drop i bs) a n) ∙ ap front-digits (take-append-drop i bs),
+      sym (past-is (take i bs) (drop i bs) a n) ∙ ap past-digits (take-append-drop i bs),
+    )
 
 pub ends-all : (bs : List ℕ) → allDigits bs ≡ true → (bs ≡ front-digits bs) × ([] ≡ past-digits bs)
 ends-all bs a =
@@ -82,44 +83,47 @@ rest-is b bs = ap (λ (k : ℕ). take k bs) (omega arith) ∙ take-length bs
 pub point-off : (text : List ℕ) → 1 ≤ length text → getD text 0 0 ≡ 46
     → (front-digits (take (length text - 1) (drop 1 text)) ≡ places (front-fraction text)) × (past-digits (take (length text - 1) (drop 1 text)) ≡ past-fraction text)
 point-off [] h e = let z : ⊥ = omega arith in absurd z
-point-off (b ∷ bs) h e =
-    (ap front-digits (rest-is b bs) ∙ sym (ap places (cond-true (eqb b 46) (point (front-digits bs)) pointless (eq-eqb b 46 e))),
-     ap past-digits (rest-is b bs) ∙ sym (cond-true _ _ _ (eq-eqb b 46 e)))
+point-off (b ∷ bs) h e = (
+  ap front-digits (rest-is b bs) ∙ sym (ap places (cond-true (eqb b 46) (point (front-digits bs)) pointless (eq-eqb b 46 e))),
+  ap past-digits (rest-is b bs) ∙ sym (cond-true _ _ _ (eq-eqb b 46 e)),
+)
 
 -- a text without one
 pub no-point : (text : List ℕ) → (1 ≤ length text → getD text 0 0 ≡ 46 → ⊥) → ([] ≡ places (front-fraction text)) × (text ≡ past-fraction text)
 no-point [] n = (refl, refl)
-no-point (b ∷ bs) n =
-    (sym (ap places (cond-false (eqb b 46) (point (front-digits bs)) pointless (ne-eqb b 46 (n (omega arith))))),
-     sym (cond-false _ _ _ (ne-eqb b 46 (n (omega arith)))))
+no-point (b ∷ bs) n = (
+  sym (ap places (cond-false (eqb b 46) (point (front-digits bs)) pointless (ne-eqb b 46 (n (omega arith))))),
+  sym (cond-false _ _ _ (ne-eqb b 46 (n (omega arith)))),
+)
 
 -- bytes after which no digits are left are digits
 pub past-none : (bs : List ℕ) → length (past-digits bs) ≡ 0 → front-digits bs ≡ bs
 past-none bs e = sym (append-nil (front-digits bs)) ∙ (ap (λ (l : List ℕ). front-digits bs ++ l) (sym (nil-from-length (past-digits bs) e)) ∙ front-past bs)
 
+-- some digits are a numeral
 pub numeral-some : (ds : List ℕ) → (length ds ≡ 0 → ⊥) → allDigits ds ≡ true → numeral ds ≡ true
 numeral-some [] n a = absurd (n refl)
 numeral-some (d ∷ ds) n a = a
 
-some-numeral : (ds : List ℕ) → numeral ds ≡ true → (length ds ≡ 0 → ⊥) × (allDigits ds ≡ true)
+-- what a numeral is
+pub some-numeral : (ds : List ℕ) → numeral ds ≡ true → (length ds ≡ 0 → ⊥) × (allDigits ds ≡ true)
 some-numeral [] e = absurd (true≢false (sym e))
 some-numeral (d ∷ ds) e = ((λ h. omega arith), e)
-
 
 -- what begins with no digit is no numeral
 no-front : (bs : List ℕ) → length (front-digits bs) ≡ 0 → numeral bs ≡ false
 no-front [] h = refl
 no-front (b ∷ bs) h = elim (cases-bool (asciiDigit b)) [
-    | inl e ↦ let k : length (cond (asciiDigit b) (b ∷ front-digits bs) []) ≡ length (b ∷ front-digits bs) = ap length (cond-true _ _ _ e) in let z : ⊥ = omega arith in absurd z
-    | inr e ↦ and-left _ _ e
-  ]
+  | inl e ↦ let k : length (cond (asciiDigit b) (b ∷ front-digits bs) []) ≡ length (b ∷ front-digits bs) = ap length (cond-true _ _ _ e) in let z : ⊥ = omega arith in absurd z
+  | inr e ↦ and-left _ _ e
+]
 
 -- nor is what has more than digits
 some-tail : (bs : List ℕ) → (length (past-digits bs) ≡ 0 → ⊥) → numeral bs ≡ false
 some-tail bs h = elim (cases-bool (numeral bs)) [
-    | inl e ↦ absurd (h (sym (ap length (ends-all bs (some-numeral bs e .1) .1))))
-    | inr e ↦ e
-  ]
+  | inl e ↦ absurd (h (sym (ap length (ends-all bs (some-numeral bs e .1) .1))))
+  | inr e ↦ e
+]
 
 -- what follows the letter of an exponent
 module _ (bs rest ds : List ℕ) (r : rest ≡ after-sign bs) (d : ds ≡ front-digits rest) where
@@ -137,23 +141,23 @@ module _ (bs rest ds : List ℕ) (r : rest ≡ after-sign bs) (d : ds ≡ front-
 -- the heading of an exponent is that of what follows its letter
 heading-of : (b : ℕ) (bs : List ℕ) → (eqb b 101 || eqb b 69) ≡ true → power-of bs ≡ mapped heading (exponent-of (b ∷ bs))
 heading-of b bs e = elim (cases-bool (numeral (after-sign bs))) [
-    | inl n ↦ cond-true _ _ _ n ∙ sym (ap (mapped heading) (cond-true _ _ _ (and-from _ _ e n)))
-    | inr n ↦ cond-false _ _ _ n ∙ sym (ap (mapped heading) (cond-false ((eqb b 101 || eqb b 69) && numeral (after-sign bs)) _ _ (and-right (eqb b 101 || eqb b 69) _ n)))
-  ]
+  | inl n ↦ cond-true _ _ _ n ∙ sym (ap (mapped heading) (cond-true _ _ _ (and-from _ _ e n)))
+  | inr n ↦ cond-false _ _ _ n ∙ sym (ap (mapped heading) (cond-false ((eqb b 101 || eqb b 69) && numeral (after-sign bs)) _ _ (and-right (eqb b 101 || eqb b 69) _ n)))
+]
 
 -- an exponent after its letter
 pub letter-off : (text : List ℕ) → 1 ≤ length text → ((getD text 0 0 ≡ 69 → ⊥) → getD text 0 0 ≡ 101) → power-of (take (length text - 1) (drop 1 text)) ≡ mapped heading (exponent-of text)
 letter-off [] h e = let z : ⊥ = omega arith in absurd z
 letter-off (b ∷ bs) h e = ap power-of (rest-is b bs) ∙ heading-of b bs (elim (cases-eq b 69) [
-    | inl q ↦ or-right (eqb b 101) (eqb b 69) (eq-eqb b 69 q)
-    | inr n ↦ or-left (eqb b 101) (eqb b 69) (eq-eqb b 101 (e n))
-  ])
+  | inl q ↦ or-right (eqb b 101) (eqb b 69) (eq-eqb b 69 q)
+  | inr n ↦ or-left (eqb b 101) (eqb b 69) (eq-eqb b 101 (e n))
+])
 
 -- an exponent that was found has digits
 pub exponent-sound : (bs : List ℕ) (x : Exponent) → exponent-of bs ≡ Some x → sound-exponent x ≡ true
 exponent-sound [] x e = ap sound-exponent (some-same (sym e)) where
-    some-same : Some x ≡ Some absent → x ≡ absent
-    some-same q = cc
+  some-same : Some x ≡ Some absent → x ≡ absent
+  some-same q = cc
 exponent-sound (b ∷ bs) x e =
     let p = some-is ((eqb b 101 || eqb b 69) && numeral (after-sign bs)) (power (eqb b 69) (sign-of bs) (after-sign bs)) x (sym e) in
     sym (ap sound-exponent (p .1)) ∙ and-parts (eqb b 101 || eqb b 69) (numeral (after-sign bs)) (p .0) .1

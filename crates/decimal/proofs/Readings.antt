@@ -65,9 +65,9 @@ module _ (text body whole rest fraction last : List ℕ)
         places-digits : (bs : List ℕ) → allDigits (places (front-fraction bs)) ≡ true
         places-digits [] = refl
         places-digits (c ∷ bs) = elim (cases-bool (eqb c 46)) [
-            | inl q ↦ ap (λ (g : Fraction). allDigits (places g)) (cond-true (eqb c 46) (point (front-digits bs)) pointless q) ∙ all-front bs
-            | inr q ↦ ap (λ (g : Fraction). allDigits (places g)) (cond-false (eqb c 46) (point (front-digits bs)) pointless q)
-          ]
+          | inl q ↦ ap (λ (g : Fraction). allDigits (places g)) (cond-true (eqb c 46) (point (front-digits bs)) pointless q) ∙ all-front bs
+          | inr q ↦ ap (λ (g : Fraction). allDigits (places g)) (cond-false (eqb c 46) (point (front-digits bs)) pointless q)
+        ]
 
     pub exponent-all : allDigits exponent ≡ true
     exponent-all =

@@ -46,16 +46,16 @@ module _ (down : Bool) (power places : ℕ) (s : ℤ) (small : power < 10 ^ 4) (
   -- a scale in reach is the true one
   pub scale-found : natAbs s ≤ 22 → Some s ≡ cond (in-reach (under-sign down power -ℤ pos places)) (Some (under-sign down power -ℤ pos places)) None
   scale-found h = elim (cases-lt 20000 places) [
-      | inl f ↦ let b = many f in let y : ⊥ = omega arith in absurd y
-      | inr f ↦ ap Some (same f) ∙ sym (cond-true _ _ _ (ap in-reach (sym (same f)) ∙ le-leb (natAbs s) 22 h))
-    ]
+    | inl f ↦ let b = many f in let y : ⊥ = omega arith in absurd y
+    | inr f ↦ ap Some (same f) ∙ sym (cond-true _ _ _ (ap in-reach (sym (same f)) ∙ le-leb (natAbs s) 22 h))
+  ]
 
   -- and one out of reach stays so
   pub scale-lost : 22 < natAbs s → None ≡ cond (in-reach (under-sign down power -ℤ pos places)) (Some (under-sign down power -ℤ pos places)) None
   scale-lost h = elim (cases-lt 20000 places) [
-      | inl f ↦ sym (cond-false (in-reach (under-sign down power -ℤ pos places)) _ _ (lt-leb (natAbs (under-sign down power -ℤ pos places)) 22 (many f .1)))
-      | inr f ↦ sym (cond-false _ _ _ (ap in-reach (sym (same f)) ∙ lt-leb (natAbs s) 22 h))
-    ]
+    | inl f ↦ sym (cond-false (in-reach (under-sign down power -ℤ pos places)) _ _ (lt-leb (natAbs (under-sign down power -ℤ pos places)) 22 (many f .1)))
+    | inr f ↦ sym (cond-false _ _ _ (ap in-reach (sym (same f)) ∙ lt-leb (natAbs s) 22 h))
+  ]
 
 -- an exponent of at most four digits under its sign, in 32 bits
 pub falling : (down : Bool) (power : ℕ) → power < 10 ^ 4 → down ≡ true → toZ w32 (ofZ w32 (pos 0 -ℤ toZ w32 power)) ≡ under-sign down power

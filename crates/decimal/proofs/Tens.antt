@@ -113,6 +113,7 @@ zero-is = refl
 -- 0 over any number is 0
 zero-over : (d : ℕ) → 0 < d → ofBits binary64 0 ≡ round binary64 false 0 d
 zero-over d h = zero-is ∙ round-same binary64 false 0 1 0 d (zero-lt-suc 0) h (zero-mul d ∙ sym (zero-mul 1))
+
 -- 0 is 0 at every scale
 pub zero-scaled : (e : ℤ) → ofBits binary64 0 ≡ nearest-decimal false 0 e
 zero-scaled (pos k) = zero-over 1 (zero-lt-suc 0) ∙ ap (λ (n : ℕ). round binary64 false n 1) (sym (zero-mul (10 ^ k)))

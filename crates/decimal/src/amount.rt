@@ -8,7 +8,6 @@ ghost use Rattle.std.specs.shelf.Text.{allDigits};
 ghost use Rattle.std.specs.declared.option.Option.the-variants.{Some, None};
 ghost use Rattle.number.specs.Widths.{under-sign};
 ghost use Rattle.decimal.specs.Amount.{in-reach, nearest-decimal, amount};
-
 use number::digits::read_digits;
 
 // The powers of ten that are floats exactly.
@@ -91,7 +90,11 @@ fn scale_by_ten(number: u64, scale: i32) -> f64
 {
     let digits = number as f64;
     let ten = ten_to(scale.unsigned_abs() as usize);
-    if scale >= 0 { digits * ten } else { digits / ten }
+    if scale >= 0 {
+        digits * ten
+    } else {
+        digits / ten
+    }
 }
 
 // A power of ten, exactly.

@@ -3,3 +3,5 @@ mod amount;
 pub mod fault;
 pub mod parse;
 mod split;
+#[cfg(test)]
+mod tests;

@@ -1,10 +1,9 @@
 // Number text read as a float.
 ghost use mathlib.Core.Path.{_≡_};
-ghost use mathlib.Core.Bool.{true};
 ghost use Rattle.std.specs.declared.option.Option.the-variants.{Some};
 ghost use Rattle.decimal.specs.Fault.{numbered, float-of-text};
-ghost use Rattle.decimal.specs.Grammar.{Literal, literal, sound, spelled};
-
+ghost use Rattle.decimal.specs.Grammar.{Literal, literal};
+ghost use Rattle.decimal.specs.Answer.{Spells, Answered, One-literal};
 use crate::amount::read_amount;
 use crate::fault::NumberFault;
 use crate::split::split_digits;
@@ -17,6 +16,9 @@ use number::sign::split_sign;
 // optional exponent: `e` or `E`, an optional sign and at least one digit.
 pub fn parse_float(text: &[u8]) -> Result<f64, NumberFault>
     ensures value { λ r. ⌜ numbered r ≡ «float-of-text» (now (text .entry)) ⌝ }
+    ensures answered { λ r. ⌜ Answered (now (text .entry)) r ⌝ }
+    ensures grammar { λ _. ⌜ ((l : Literal) → Spells (now (text .entry)) l → literal (now (text .entry)) ≡ Some l) ⌝ }
+    ensures unique { λ _. ⌜ «One-literal» ⌝ }
 {
     let (minus, body) = split_sign(text);
     let (whole, rest) = split_digits(body);

@@ -6,7 +6,6 @@ ghost use Prim.Native.Nat.{ℕ};
 ghost use Rattle.std.specs.Options.{mapped};
 ghost use Rattle.decimal.specs.Grammar.{places, front-digits, past-digits, front-fraction, past-fraction, exponent-of};
 ghost use Rattle.decimal.specs.Amount.{heading, power-of};
-
 use number::sign::split_sign;
 
 // The digits that a text begins with, and what follows them.

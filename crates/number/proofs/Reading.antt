@@ -89,9 +89,9 @@ read-value n m ds e = some-is (allDigits ds && ltb (value-after n ds) (2 ^ 64)) 
 
 pub large-value : (n : ℕ) (ds : List ℕ) → allDigits ds ≡ true → None ≡ digits-after n ds → 2 ^ 64 ≤ value-after n ds
 large-value n ds a e = elim (and-cases (allDigits ds) (ltb (value-after n ds) (2 ^ 64)) (none-is _ _ e)) [
-    | inl b ↦ absurd (true≢false (sym a ∙ b))
-    | inr l ↦ ltb-false _ _ l
-  ]
+  | inl b ↦ absurd (true≢false (sym a ∙ b))
+  | inr l ↦ ltb-false _ _ l
+]
 
 -- a number of 2 ^ 64 or more is no signed number of 64 bits, with either sign
 unfit : (minus : Bool) (n : ℕ) → 2 ^ 64 ≤ n → fits (signed 63) (under-sign minus n) ≡ false
@@ -176,18 +176,18 @@ no-minus-text (b ∷ bs) m = sym (cond-both (eqb b 43) plus (cond (eqb b 45) min
 pub sign-front : (text : List ℕ) → sign-bytes (sign-of text) ++ after-sign text ≡ text
 sign-front [] = refl
 sign-front (b ∷ bs) = elim (cases-bool (eqb b 43)) [
-    | inl p ↦
-        ap (λ (s : Sign). sign-bytes s ++ after-sign (b ∷ bs)) (cond-true _ _ _ p)
-        ∙ (λ i. sym (eqb-true b 43 p) i ∷ cond-true (eqb b 43 || eqb b 45) bs (b ∷ bs) (or-left _ _ p) i)
-    | inr p ↦ elim (cases-bool (eqb b 45)) [
-        | inl m ↦
-            ap (λ (s : Sign). sign-bytes s ++ after-sign (b ∷ bs)) (cond-false _ _ _ p ∙ cond-true (eqb b 45) minus bare m)
-            ∙ (λ i. sym (eqb-true b 45 m) i ∷ cond-true (eqb b 43 || eqb b 45) bs (b ∷ bs) (or-right _ _ m) i)
-        | inr m ↦
-            ap (λ (s : Sign). sign-bytes s ++ after-sign (b ∷ bs)) (cond-false _ _ _ p ∙ cond-false (eqb b 45) minus bare m)
-            ∙ cond-false (eqb b 43 || eqb b 45) bs (b ∷ bs) (or-from _ _ p m)
-      ]
+  | inl p ↦
+      ap (λ (s : Sign). sign-bytes s ++ after-sign (b ∷ bs)) (cond-true _ _ _ p)
+      ∙ (λ i. sym (eqb-true b 43 p) i ∷ cond-true (eqb b 43 || eqb b 45) bs (b ∷ bs) (or-left _ _ p) i)
+  | inr p ↦ elim (cases-bool (eqb b 45)) [
+    | inl m ↦
+        ap (λ (s : Sign). sign-bytes s ++ after-sign (b ∷ bs)) (cond-false _ _ _ p ∙ cond-true (eqb b 45) minus bare m)
+        ∙ (λ i. sym (eqb-true b 45 m) i ∷ cond-true (eqb b 43 || eqb b 45) bs (b ∷ bs) (or-right _ _ m) i)
+    | inr m ↦
+        ap (λ (s : Sign). sign-bytes s ++ after-sign (b ∷ bs)) (cond-false _ _ _ p ∙ cond-false (eqb b 45) minus bare m)
+        ∙ cond-false (eqb b 43 || eqb b 45) bs (b ∷ bs) (or-from _ _ p m)
   ]
+]
 
 -- bytes that begin with no sign
 abbrev pub Bare : List ℕ → Type 0
@@ -200,9 +200,10 @@ of-sign plus bs h = (refl, refl)
 of-sign minus bs h = (refl, refl)
 
 pub other-bare : (b : ℕ) (bs : List ℕ) → (b ≡ 43 → ⊥) → (b ≡ 45 → ⊥) → Bare (b ∷ bs)
-other-bare b bs p m =
-    (cond-false (eqb b 43) plus _ (ne-eqb b 43 p) ∙ cond-false (eqb b 45) minus bare (ne-eqb b 45 m),
-     cond-false _ _ _ (or-from _ _ (ne-eqb b 43 p) (ne-eqb b 45 m)))
+other-bare b bs p m = (
+  cond-false (eqb b 43) plus _ (ne-eqb b 43 p) ∙ cond-false (eqb b 45) minus bare (ne-eqb b 45 m),
+  cond-false _ _ _ (or-from _ _ (ne-eqb b 43 p) (ne-eqb b 45 m)),
+)
 
 -- what begins with a digit begins with no sign
 pub digit-bare : (b : ℕ) (bs : List ℕ) → asciiDigit b ≡ true → Bare (b ∷ bs)
@@ -246,7 +247,7 @@ written w text z e =
       some = r .0;
       allowed = allowed-by m (has-sign w) (p .0);
       value = q .1;
-      room = sym (ap (fits w) (q .1)) ∙ r .1
+      room = sym (ap (fits w) (q .1)) ∙ r .1;
     }
 
 -- and what it writes is read

@@ -42,7 +42,7 @@ scale-by-ten-requires c κs =
     let f : SFits w32 (c .in-Continue-scale .scale) = search needs in
     record {
       small = c .if-number-ge-LIMIT .left;
-      reached = ap in-reach (toZ-ofZ w32 (c .in-Continue-scale .scale) f) ∙ reached (c .args .whole .now) (c .args .fraction .now) (c .args .exponent .now) (c .args .down) (c .in-Continue-before-point .before-point) (c .in-Continue-before-point .ensures tt) (c .in-Continue-number .number) (c .in-Continue-number .ensures tt) (c .if-exponent-gt4 .left) (c .if-number-ge-LIMIT .left) (c .if-number-eq0 .left) (c .in-Continue-power .power) (c .in-Continue-power .ensures tt) (c .in-Continue-scale .scale) (c .in-Continue-scale .ensures tt)
+      reached = ap in-reach (toZ-ofZ w32 (c .in-Continue-scale .scale) f) ∙ reached (c .args .whole .now) (c .args .fraction .now) (c .args .exponent .now) (c .args .down) (c .in-Continue-before-point .before-point) (c .in-Continue-before-point .ensures tt) (c .in-Continue-number .number) (c .in-Continue-number .ensures tt) (c .if-exponent-gt4 .left) (c .if-number-ge-LIMIT .left) (c .if-number-eq0 .left) (c .in-Continue-power .power) (c .in-Continue-power .ensures tt) (c .in-Continue-scale .scale) (c .in-Continue-scale .ensures tt);
     }
 
 pub returns : need.returns
