@@ -2,6 +2,7 @@
 ghost use mathlib.Core.Path.{_≡_};
 ghost use mathlib.Core.Bool.{true, false, cond};
 ghost use Prim.Native.Nat.{ℕ, _^_, _<_};
+ghost use lib.Dec.{ltb};
 ghost use lib.IntN.{ℤ, pos, _-ℤ_};
 ghost use lib.Ieee.Exact.{HasValue};
 ghost use Rattle.std.specs.shelf.Text.{allDigits};
@@ -37,8 +38,14 @@ const TENS: [f64; 23] = [
     1e22,
 ];
 
-// Numbers from here on are not read: below it, every whole number is a float exactly.
+// Whole numbers below 10^15 are floats exactly.
 const LIMIT: u64 = 1_000_000_000_000_000;
+
+// The greatest exponent of a power of ten that is a float exactly.
+const REACH: u32 = 22;
+
+// How many digits an exponent may have.
+const EXPONENT_DIGITS: usize = 4;
 
 // An exponent of four digits does not make up for as many places.
 const MANY_PLACES: usize = 20_000;
@@ -52,12 +59,12 @@ pub(crate) fn read_amount(whole: &[u8], fraction: &[u8], down: bool, exponent: &
     requires exponents { ⌜ allDigits (now exponent) ≡ true ⌝ }
     ensures { λ r. ⌜ r ≡ amount false (now (whole .entry)) (now (fraction .entry)) down (now (exponent .entry)) ⌝ }
 {
-    if exponent.len() > 4 {
+    if exponent.len() > EXPONENT_DIGITS {
         return None;
     }
     let before_point = read_digits(0, whole)?;
     let number = read_digits(before_point, fraction)?;
-    if number >= LIMIT {
+    if !is_read(number) {
         return None;
     }
     if number == 0 {
@@ -68,6 +75,13 @@ pub(crate) fn read_amount(whole: &[u8], fraction: &[u8], down: bool, exponent: &
     Some(scale_by_ten(number, scale))
 }
 
+// Whether a number is small enough to be read.
+fn is_read(number: u64) -> bool
+    ensures { λ r. ⌜ r ≡ ltb number (10 ^ 15) ⌝ }
+{
+    number < LIMIT
+}
+
 // The exponent less the number of places, where it is from -22 to 22.
 fn find_scale(down: bool, power: u64, places: usize) -> Option<i32>
     requires { ⌜ power < 10 ^ 4 ⌝ }
@@ -75,7 +89,7 @@ fn find_scale(down: bool, power: u64, places: usize) -> Option<i32>
 {
     let power = if down { -(power as i32) } else { power as i32 };
     let scale = power - places.min(MANY_PLACES) as i32;
-    if scale.unsigned_abs() <= 22 {
+    if scale.unsigned_abs() <= REACH {
         Some(scale)
     } else {
         None

@@ -15,7 +15,7 @@ use mir.Val.{SFits, ofZ, toZ}
 use mir.ValLaws.{toZ-ofZ}
 use Rattle.std.proofs.shelf.Bits.{mod-mul-add, div-below}
 use Rattle.std.proofs.shelf.Signed.{ints}
-use Rattle.std.proofs.shelf.Tests.{ltb-true, le-ltb, cond-true, cond-false}
+use Rattle.std.proofs.shelf.Tests.{ltb-true, lt-ltb, le-ltb, cond-true, cond-false}
 use Rattle.std.specs.Numbers.{minZ, maxZ}
 use Rattle.number.specs.Widths.{Wide, signed, unsigned, has-sign, fits, least, greatest, clamp, under-sign, narrow-float, narrow-whole, low-bits, twos-complement}
 
@@ -87,3 +87,8 @@ clamps-unsigned w (fin true m e) = bottom (m * up e / down e) (2 ^ w - 1)
     bottom : (n g : ℕ) → pos 0 ≡ maxZ (pos 0) (minZ (negℤ (pos n)) (pos g))
     bottom zero g = grind (arith, ints)
     bottom (suc n) g = grind (arith, ints)
+
+-- a width has a sign just where it has -1
+pub sign-holds : (w : Wide) → fits w (negsuc 0) ≡ has-sign w
+sign-holds (signed h) = lt-ltb 0 (2 ^ h) (pow-pos h)
+sign-holds (unsigned w) = refl

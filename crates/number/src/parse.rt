@@ -17,7 +17,7 @@ pub fn parse_whole<W: Width>(text: &[u8]) -> Option<W>
     ensures read { λ _. ⌜ ((z : ℤ) → Writes (W·Width .wide) (now (text .entry)) z → «whole-of-text» (W·Width .wide) (now (text .entry)) ≡ Some z) ⌝ }
 {
     let (minus, digits) = split_sign(text);
-    if minus && !W::is_signed() {
+    if minus && !W::holds(-1) {
         None
     } else {
         parse_digits(minus, digits)

@@ -49,9 +49,9 @@ fn wholes_are_narrowed() -> Result<(), Fail> {
         check(I64Width::narrow_whole(whole) == whole)?;
         check(U32Width::narrow_whole(whole) == wide)?;
         check(U8Width::narrow_whole(whole) == byte)?;
-        check(I64Width::holds(whole) && I64Width::is_signed())?;
-        check(U32Width::holds(whole) == (whole == wide as i64) && !U32Width::is_signed())?;
-        check(U8Width::holds(whole) == (whole == byte as i64) && !U8Width::is_signed())?;
+        check(I64Width::holds(whole))?;
+        check(U32Width::holds(whole) == (whole == wide as i64))?;
+        check(U8Width::holds(whole) == (whole == byte as i64))?;
     }
     Ok(())
 }

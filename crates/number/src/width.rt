@@ -2,7 +2,7 @@
 ghost use mathlib.Core.Path.{_≡_};
 ghost use mathlib.Core.Bool.{true};
 ghost use lib.IntN.{ℤ, pos};
-ghost use Rattle.number.specs.Widths.{Wide, signed, unsigned, has-sign, fits, narrow-float, narrow-whole};
+ghost use Rattle.number.specs.Widths.{Wide, signed, unsigned, fits, narrow-float, narrow-whole};
 use std::num::saturating_f64_to_i64;
 use std::num::saturating_f64_to_u8;
 use std::num::saturating_f64_to_u32;
@@ -14,10 +14,6 @@ pub trait Width: Sized {
     ghost number: { Self → ℤ };
 
     law within: { (z : ℤ) → fits wide z ≡ true → fits (signed 63) z ≡ true };
-
-    // Whether the width has numbers below 0, so that its texts may begin with a minus.
-    fn is_signed() -> bool
-        ensures { λ r. ⌜ r ≡ «has-sign» wide ⌝ };
 
     // Whether the width has this number.
     fn holds(n: i64) -> bool
@@ -37,10 +33,6 @@ pub impl Width for i64 as I64Width {
 
     ghost number = { λ z. z };
 
-    fn is_signed() -> bool {
-        true
-    }
-
     fn holds(_n: i64) -> bool {
         true
     }
@@ -59,12 +51,8 @@ pub impl Width for u32 as U32Width {
 
     ghost number = { pos };
 
-    fn is_signed() -> bool {
-        false
-    }
-
     fn holds(n: i64) -> bool {
-        0 <= n && n <= 0xffff_ffff
+        0 <= n && n <= 4294967295
     }
 
     fn narrow_float(x: f64) -> u32 {
@@ -81,12 +69,8 @@ pub impl Width for u8 as U8Width {
 
     ghost number = { pos };
 
-    fn is_signed() -> bool {
-        false
-    }
-
     fn holds(n: i64) -> bool {
-        0 <= n && n <= 0xff
+        0 <= n && n <= 255
     }
 
     fn narrow_float(x: f64) -> u8 {

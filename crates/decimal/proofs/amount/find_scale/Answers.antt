@@ -5,8 +5,8 @@ use Rattle.decimal.proofs.Scales.{scale-found, scale-lost, falling, rising, le
 use Rattle.decimal.proofs.amount.find_scale.Needs as need
 use Rattle.decimal.proofs.amount.find_scale.Needs.{then-down, else-down}
 
-pub returns-then-unsigned-abs-le22 : need.returns-then-unsigned-abs-le22
-returns-then-unsigned-abs-le22 c =
+pub returns-then-unsigned-abs-le-REACH : need.returns-then-unsigned-abs-le-REACH
+returns-then-unsigned-abs-le-REACH c =
     let p : c .if-down .power ≡ under-sign (c .args .down) (c .args .power) = elim (c .if-down .came) [
       | then-down w ↦ sym (c .if-down .power-is) ∙ (w .power-is ∙ falling (c .args .down) (c .args .power) (c .pre) (w .if-down .taken))
       | else-down w ↦ sym (c .if-down .power-is) ∙ (w .power-is ∙ rising (c .args .down) (c .args .power) (c .pre) (w .if-down .left))
@@ -14,8 +14,8 @@ returns-then-unsigned-abs-le22 c =
     let s = less-places (c .args .down) (c .args .power) (c .args .places) (c .min .result) _ (c .pre) (c .if-down .power-is ∙ p) (c .min .ensures) in
     scale-found (c .args .down) (c .args .power) (c .args .places) _ (c .pre) s (omega (arith, c .unsigned-abs .ensures .value))
 
-pub returns-else-unsigned-abs-le22 : need.returns-else-unsigned-abs-le22
-returns-else-unsigned-abs-le22 c =
+pub returns-else-unsigned-abs-le-REACH : need.returns-else-unsigned-abs-le-REACH
+returns-else-unsigned-abs-le-REACH c =
     let p : c .if-down .power ≡ under-sign (c .args .down) (c .args .power) = elim (c .if-down .came) [
       | then-down w ↦ sym (c .if-down .power-is) ∙ (w .power-is ∙ falling (c .args .down) (c .args .power) (c .pre) (w .if-down .taken))
       | else-down w ↦ sym (c .if-down .power-is) ∙ (w .power-is ∙ rising (c .args .down) (c .args .power) (c .pre) (w .if-down .left))
