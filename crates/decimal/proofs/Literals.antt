@@ -1,11 +1,11 @@
 -- A text taken apart is spelled by its parts, and by no others.
-use mathlib.Core.Path.{_≡_, refl, sym, ap, _∙_, subst}
-use mathlib.Core.Bool.{Bool, true, false, cond, _&&_, _||_, true≢false}
-use mathlib.Core.List.{List, [], _∷_, _++_, append-assoc}
+use mathlib.Core.Path.{_≡_, refl, sym, ap, _∙_}
+use mathlib.Core.Bool.{true, false, cond, _&&_, _||_, true≢false}
+use mathlib.Core.List.{List, [], _∷_, _++_}
 use mathlib.Core.Logic.{inl, inr}
-use Prim.Native.Nat.{ℕ, zero, suc, _≤_, _<_}
+use Prim.Native.Nat.{ℕ}
 use native.Mathlib.Omega.{arith}
-use lib.Dec.{eqb, leb}
+use lib.Dec.{eqb}
 use lib.Ieee.{Float}
 use Rattle.std.specs.Text.{asciiDigit}
 use Rattle.std.specs.shelf.Text.{allDigits}
@@ -13,7 +13,7 @@ use Rattle.std.specs.declared.option.Option.{Option}
 use Rattle.std.specs.declared.option.Option.the-variants.{Some, None}
 use Rattle.std.specs.declared.result.Result.{Result}
 use Rattle.std.specs.declared.result.Result.the-variants.{Ok, Err}
-use Rattle.std.proofs.shelf.Tests.{leb-true, eqb-true, eq-eqb, ne-eqb, lt-leb, cond-true, cond-false, cases-bool, and-from, and-left, and-right, and-parts, or-left, or-right, or-cases}
+use Rattle.std.proofs.shelf.Tests.{eqb-true, cond-true, cond-false, cases-bool, and-from, and-parts, or-cases}
 use Rattle.number.specs.Numerals.{Sign, sign-bytes, sign-of, after-sign, numeral}
 use Rattle.number.proofs.Reading.{some-is, Bare, of-sign, other-bare, digit-bare, numeral-bare, sign-front}
 use Rattle.decimal.specs.declared.fault.NumberFault.{NumberFault}
@@ -72,10 +72,6 @@ parts-spell text l e =
     (sym (ap sound (p .3)) ∙ good, sym (ap spelled (p .3)) ∙ whole)
 
 -- ---- from the parts to the text
-
--- a byte below or above the digits is none
-no-digit-front : (b : ℕ) (bs : List ℕ) → asciiDigit b ≡ false → front-digits (b ∷ bs) ≡ []
-no-digit-front b bs e = cond-false _ _ _ e
 
 -- an exponent begins with no digit and no point
 exponent-front : (x : Exponent) → (front-digits (exponent-bytes x) ≡ []) × (front-fraction (exponent-bytes x) ≡ pointless) × (past-fraction (exponent-bytes x) ≡ exponent-bytes x)

@@ -1,25 +1,23 @@
 -- Number text taken apart, part by part.
-use mathlib.Core.Path.{_≡_, refl, sym, ap, _∙_, subst}
-use mathlib.Core.Bool.{Bool, true, false, cond, _&&_, _||_, true≢false}
+use mathlib.Core.Path.{_≡_, refl, sym, ap, _∙_}
+use mathlib.Core.Bool.{Bool, true, false, _&&_, _||_, true≢false}
 use mathlib.Core.List.{List, [], _∷_, _++_, append-nil}
 use mathlib.Core.Logic.{inl, inr}
-use Prim.Native.Nat.{ℕ, zero, suc, _+_, _-_, _≤_, _<_}
-use native.Mathlib.Numerals.{add-one}
+use Prim.Native.Nat.{ℕ, _+_, _-_, _≤_, _<_}
 use native.Mathlib.Omega.{arith}
-use lib.Dec.{eqb, leb}
+use lib.Dec.{eqb}
 use lib.ListN.{length, take, drop, getD}
 use lib.Seq.{drop-cons, take-length}
 use Rattle.std.specs.Text.{asciiDigit}
 use Rattle.std.specs.shelf.Text.{allDigits}
 use Rattle.std.specs.Options.{mapped}
-use Rattle.std.specs.declared.option.Option.{Option}
 use Rattle.std.specs.declared.option.Option.the-variants.{Some, None}
 use Rattle.std.proofs.shelf.Lists.{take-more, take-append-drop, nil-from-length}
-use Rattle.std.proofs.shelf.Tests.{leb-true, eqb-true, cases-eq, eq-eqb, ne-eqb, cond-true, cond-false, cases-bool, and-from, and-left, and-right, and-parts, or-left, or-right, or-from}
-use Rattle.number.specs.Numerals.{Sign, sign-bytes, is-minus, sign-of, after-sign, numeral}
-use Rattle.number.proofs.Reading.{some-is, Bare, of-sign, other-bare, digit-bare, numeral-bare, sign-front}
+use Rattle.std.proofs.shelf.Tests.{cases-eq, eq-eqb, cond-true, cond-false, cases-bool, and-from, and-right, and-parts, or-left, or-right}
+use Rattle.number.specs.Numerals.{is-minus, sign-of, after-sign, numeral}
+use Rattle.number.proofs.Reading.{some-is}
 use Rattle.decimal.specs.Amount.{heading, power-of}
-use Rattle.decimal.specs.Grammar.{Fraction, pointless, point, Exponent, absent, power, Literal, places, fraction-bytes, exponent-bytes, spelled, sound-exponent, sound, front-digits, past-digits, front-fraction, past-fraction, exponent-of, closed, literal}
+use Rattle.decimal.specs.Grammar.{pointless, point, Exponent, absent, power, places, sound-exponent, front-digits, past-digits, front-fraction, past-fraction, exponent-of}
 
 -- digits one after the other
 pub all-append : (xs ys : List ℕ) → allDigits (xs ++ ys) ≡ (allDigits xs && allDigits ys)
@@ -88,14 +86,6 @@ point-off (b ∷ bs) h e = (
   ap past-digits (rest-is b bs) ∙ sym (cond-true _ _ _ (eq-eqb b 46 e)),
 )
 
--- a text without one
-pub no-point : (text : List ℕ) → (1 ≤ length text → getD text 0 0 ≡ 46 → ⊥) → ([] ≡ places (front-fraction text)) × (text ≡ past-fraction text)
-no-point [] n = (refl, refl)
-no-point (b ∷ bs) n = (
-  sym (ap places (cond-false (eqb b 46) (point (front-digits bs)) pointless (ne-eqb b 46 (n (omega arith))))),
-  sym (cond-false _ _ _ (ne-eqb b 46 (n (omega arith)))),
-)
-
 -- bytes after which no digits are left are digits
 pub past-none : (bs : List ℕ) → length (past-digits bs) ≡ 0 → front-digits bs ≡ bs
 past-none bs e = sym (append-nil (front-digits bs)) ∙ (ap (λ (l : List ℕ). front-digits bs ++ l) (sym (nil-from-length (past-digits bs) e)) ∙ front-past bs)
@@ -110,15 +100,7 @@ pub some-numeral : (ds : List ℕ) → numeral ds ≡ true → (length ds ≡ 0 
 some-numeral [] e = absurd (true≢false (sym e))
 some-numeral (d ∷ ds) e = ((λ h. omega arith), e)
 
--- what begins with no digit is no numeral
-no-front : (bs : List ℕ) → length (front-digits bs) ≡ 0 → numeral bs ≡ false
-no-front [] h = refl
-no-front (b ∷ bs) h = elim (cases-bool (asciiDigit b)) [
-  | inl e ↦ let k : length (cond (asciiDigit b) (b ∷ front-digits bs) []) ≡ length (b ∷ front-digits bs) = ap length (cond-true _ _ _ e) in let z : ⊥ = omega arith in absurd z
-  | inr e ↦ and-left _ _ e
-]
-
--- nor is what has more than digits
+-- what has more than digits is no numeral
 some-tail : (bs : List ℕ) → (length (past-digits bs) ≡ 0 → ⊥) → numeral bs ≡ false
 some-tail bs h = elim (cases-bool (numeral bs)) [
   | inl e ↦ absurd (h (sym (ap length (ends-all bs (some-numeral bs e .1) .1))))

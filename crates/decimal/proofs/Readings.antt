@@ -1,9 +1,9 @@
 -- What a text taken apart is read as.
-use mathlib.Core.Path.{_≡_, refl, sym, ap, _∙_, subst}
-use mathlib.Core.Bool.{Bool, true, false, cond, _&&_, _||_, true≢false}
+use mathlib.Core.Path.{_≡_, refl, sym, ap, _∙_}
+use mathlib.Core.Bool.{Bool, true, false, cond, true≢false}
 use mathlib.Core.List.{List, [], _∷_, _++_}
 use mathlib.Core.Logic.{inl, inr}
-use Prim.Native.Nat.{ℕ, zero, suc, _+_, _≤_, _<_}
+use Prim.Native.Nat.{ℕ, _+_}
 use native.Mathlib.Omega.{arith}
 use lib.Dec.{eqb}
 use lib.ListN.{length}
@@ -14,9 +14,9 @@ use Rattle.std.specs.declared.option.Option.the-variants.{Some, None}
 use Rattle.std.specs.declared.result.Result.{Result}
 use Rattle.std.specs.declared.result.Result.the-variants.{Ok, Err}
 use Rattle.std.specs.shelf.Text.{allDigits}
-use Rattle.std.proofs.shelf.Tests.{cond-true, cond-false, cases-bool, and-from, and-parts}
+use Rattle.std.proofs.shelf.Tests.{cond-true, cond-false, cases-bool, and-from}
 use Rattle.number.specs.Numerals.{Sign, is-minus, sign-of, after-sign, numeral}
-use Rattle.decimal.specs.Grammar.{Fraction, pointless, point, Exponent, absent, power, Literal, places, sound-exponent, front-digits, past-digits, front-fraction, past-fraction, exponent-of, closed, literal}
+use Rattle.decimal.specs.Grammar.{Fraction, pointless, point, Exponent, absent, power, Literal, places, sound-exponent, front-digits, past-digits, front-fraction, past-fraction, exponent-of, closed}
 use Rattle.decimal.specs.Amount.{falls, exponent-digits, heading, amount, amount-of}
 use Rattle.decimal.specs.Fault.{or-beyond, or-refused, float-of-text}
 use Rattle.decimal.proofs.Parting.{all-append, all-front, numeral-some, exponent-sound}

@@ -3,15 +3,15 @@ use mathlib.Core.Path.{_≡_, refl, sym, ap, _∙_, subst}
 use mathlib.Core.Bool.{Bool, true, false, cond, true≢false}
 use mathlib.Core.List.{List, [], _∷_}
 use Prim.Native.Nat.{ℕ, zero, suc, _+_, _*_, _^_, _≤_, _<_}
-use native.Mathlib.Nat.{zero-mul, mul-pos, mul-one, mul-comm, mul-assoc, mul-left-comm, zero-add, add-zero, add-suc, suc-add, one-le-pow, le-of-suc-le-suc, zero-lt-suc, le-trans, le-of-lt, lt-irrefl}
+use native.Mathlib.Nat.{zero-mul, mul-pos, mul-one, mul-comm, mul-assoc, mul-left-comm, zero-add, add-zero, add-suc, suc-add, one-le-pow, le-of-suc-le-suc, zero-lt-suc}
 use native.Mathlib.Omega.{arith}
 use borrow.Author.Tests.{ne-eqb}
-use lib.Dec.{T, eqb, ltb, lit≤, leb·zero}
+use lib.Dec.{eqb, ltb, leb·zero}
 use lib.ListN.{getD, length}
 use lib.IntN.{ℤ, pos, negsuc, natAbs}
-use lib.Signed.{leZ, mag}
+use lib.Signed.{leZ}
 use lib.Ieee.{low, emax, prec, Float, nan, inf, fin, Format, binary64, up, down, round, units, odd, neg, mul, div, ofInt, ofBits}
-use lib.Ieee.Fits.{up-pos, down-pos}
+use lib.Ieee.Fits.{down-pos}
 use lib.Ieee.Exact.{HasValue}
 use lib.Ieee.Scale.{round-same}
 use Rattle.number.proofs.Wholes.{whole-value}

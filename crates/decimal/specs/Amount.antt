@@ -1,6 +1,6 @@
 -- The float that number text stands for, within the limits of one rounding.
-use mathlib.Core.Bool.{Bool, true, false, cond, _&&_, _||_}
-use mathlib.Core.List.{List, [], _∷_, _++_}
+use mathlib.Core.Bool.{Bool, false, cond, _&&_, _||_}
+use mathlib.Core.List.{List, [], _++_}
 use Prim.Native.Nat.{ℕ, suc, _*_, _^_}
 use lib.Dec.{eqb, ltb, leb}
 use lib.IntN.{ℤ, pos, negsuc, natAbs, _-ℤ_}
@@ -8,11 +8,9 @@ use lib.ListN.{length}
 use lib.Ieee.{Float, binary64, round}
 use Rattle.std.specs.declared.option.Option.{Option}
 use Rattle.std.specs.declared.option.Option.the-variants.{Some, None}
-use Rattle.std.specs.declared.result.Result.{Result}
-use Rattle.std.specs.declared.result.Result.the-variants.{Ok, Err}
 use Rattle.number.specs.Widths.{under-sign}
 use Rattle.number.specs.Numerals.{is-minus, sign-of, after-sign, numeral, value-after}
-use Rattle.decimal.specs.Grammar.{Fraction, Exponent, absent, power, Literal, places, literal}
+use Rattle.decimal.specs.Grammar.{Exponent, absent, power, Literal, places}
 
 -- whether an exponent is negative, and its digits, of which an absent one has none
 abbrev pub falls : Exponent → Bool

@@ -1,6 +1,6 @@
 -- Number text, as Rust's `f64::from_str` documents it, without the words inf, infinity and nan:
 --     Sign?  ( Digit+ | Digit+ '.' Digit* | Digit* '.' Digit+ )  ( ( 'e' | 'E' ) Sign? Digit+ )?
-use mathlib.Core.Bool.{Bool, true, false, cond, _&&_, _||_}
+use mathlib.Core.Bool.{Bool, true, cond, _&&_, _||_}
 use mathlib.Core.List.{List, [], _∷_, _++_}
 use Prim.Native.Nat.{ℕ}
 use lib.Dec.{eqb}

@@ -1,9 +1,9 @@
 // The value of number text: all digits as one whole number times a power of ten, rounded once.
 ghost use mathlib.Core.Path.{_≡_};
 ghost use mathlib.Core.Bool.{true, false, cond};
-ghost use Prim.Native.Nat.{ℕ, _^_, _<_};
+ghost use Prim.Native.Nat.{_^_, _<_};
 ghost use lib.Dec.{ltb};
-ghost use lib.IntN.{ℤ, pos, _-ℤ_};
+ghost use lib.IntN.{pos, _-ℤ_};
 ghost use lib.Ieee.Exact.{HasValue};
 ghost use Rattle.std.specs.shelf.Text.{allDigits};
 ghost use Rattle.std.specs.declared.option.Option.the-variants.{Some, None};

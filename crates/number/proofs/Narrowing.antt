@@ -1,23 +1,21 @@
 -- Narrowing, once for every width.
 use mathlib.Core.Path.{_≡_, refl, sym, ap, _∙_}
-use mathlib.Core.Bool.{Bool, true, false, cond, true≢false}
+use mathlib.Core.Bool.{true, false, true≢false}
 use Prim.Native.Nat.{ℕ, zero, suc, _+_, _-_, _*_, _/_, _%_, _^_, _≤_, _<_, min}
 use native.Mathlib.Nat.{mod-lt, div-add-mod', add-mul, mod-eq-of-lt, pow-succ'}
 use native.Mathlib.Omega.{arith}
 use lib.Bits.{bitAnd, and-mask}
-use lib.Dec.{ltb}
 use lib.Pow.{pow-add, pow-pos}
 use lib.IntN.{ℤ, pos, negsuc, negℤ}
-use lib.Signed.{mag, ltZ}
 use lib.Ieee.{Float, nan, inf, fin, up, down, toSigned, toUnsigned}
 use mir.Syntax.{w64}
 use mir.Val.{SFits, ofZ, toZ}
 use mir.ValLaws.{toZ-ofZ}
 use Rattle.std.proofs.shelf.Bits.{mod-mul-add, div-below}
 use Rattle.std.proofs.shelf.Signed.{ints}
-use Rattle.std.proofs.shelf.Tests.{ltb-true, lt-ltb, le-ltb, cond-true, cond-false}
+use Rattle.std.proofs.shelf.Tests.{ltb-true, le-ltb, cond-true, cond-false}
 use Rattle.std.specs.Numbers.{minZ, maxZ}
-use Rattle.number.specs.Widths.{Wide, signed, unsigned, has-sign, fits, least, greatest, clamp, under-sign, narrow-float, narrow-whole, low-bits, twos-complement}
+use Rattle.number.specs.Widths.{Wide, signed, unsigned, fits, narrow-float, narrow-whole, low-bits, twos-complement}
 
 -- n below K * p: the remainder of K * p - 1 - n is the remainder of n, turned round
 turned : (K p n : ℕ) → 0 < p → n < K * p → (K * p - suc n) % p ≡ p - 1 - n % p
@@ -87,8 +85,3 @@ clamps-unsigned w (fin true m e) = bottom (m * up e / down e) (2 ^ w - 1)
     bottom : (n g : ℕ) → pos 0 ≡ maxZ (pos 0) (minZ (negℤ (pos n)) (pos g))
     bottom zero g = grind (arith, ints)
     bottom (suc n) g = grind (arith, ints)
-
--- a width has a sign just where it has -1
-pub sign-holds : (w : Wide) → fits w (negsuc 0) ≡ has-sign w
-sign-holds (signed h) = lt-ltb 0 (2 ^ h) (pow-pos h)
-sign-holds (unsigned w) = refl

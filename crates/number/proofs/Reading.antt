@@ -1,5 +1,5 @@
 -- Digits and whole numbers as text.
-use mathlib.Core.Path.{_≡_, refl, sym, ap, _∙_, subst}
+use mathlib.Core.Path.{_≡_, refl, sym, ap, _∙_}
 use mathlib.Core.Bool.{Bool, true, false, cond, _&&_, _||_, not, true≢false}
 use mathlib.Core.List.{List, [], _∷_, _++_}
 use mathlib.Core.Logic.{_⊎_, inl, inr}
@@ -12,7 +12,7 @@ use lib.Dec.{eqb, ltb, leb}
 use lib.ListN.{length, take, drop, getD}
 use lib.Signed.{mag}
 use lib.Seq.{drop-cons, drop-length, take-length}
-use lib.IntN.{ℤ, pos, negsuc, negℤ}
+use lib.IntN.{ℤ, pos, negsuc}
 use Rattle.std.specs.declared.option.Option.{Option}
 use Rattle.std.specs.declared.option.Option.the-variants.{Some, None}
 use Rattle.std.specs.Text.{asciiDigit}
@@ -22,7 +22,7 @@ use Rattle.std.specs.Written.{decimal}
 use Rattle.std.proofs.shelf.Numerals.{Numerals, numerals-by-fold, tells-allDigits, value-short}
 use Rattle.std.proofs.shelf.Decimals.{decimal-some, digits-decimal, value-decimal}
 use Rattle.number.specs.Forms.{signed-text, whole-text}
-use Rattle.number.specs.Widths.{Wide, signed, unsigned, has-sign, fits, if-fits, under-sign, narrow-whole}
+use Rattle.number.specs.Widths.{Wide, signed, has-sign, fits, if-fits, under-sign, narrow-whole}
 use Rattle.number.proofs.Narrowing.{keeps}
 use Rattle.number.specs.Numerals.{value-after, digits-after, numeral, digits-in, sign-of, after-sign, whole-of-text, Sign, bare, plus, minus, sign-bytes, is-minus, Writes}
 
@@ -158,10 +158,6 @@ pub sign-off : (text : List ℕ) → 1 ≤ length text → (getD text 0 0 ≡ 43
 sign-off [] h e = let z : ⊥ = omega arith in absurd z
 sign-off (b ∷ bs) h (inl e) = rest-is b bs ∙ sym (cond-true _ _ _ (or-left (eqb b 43) (eqb b 45) (eq-eqb b 43 e)))
 sign-off (b ∷ bs) h (inr e) = rest-is b bs ∙ sym (cond-true _ _ _ (or-right (eqb b 43) (eqb b 45) (eq-eqb b 45 e)))
-
-pub no-sign : (text : List ℕ) → (1 ≤ length text → getD text 0 0 ≡ 43 → ⊥) → (1 ≤ length text → getD text 0 0 ≡ 45 → ⊥) → text ≡ after-sign text
-no-sign [] p m = refl
-no-sign (b ∷ bs) p m = sym (cond-false _ _ _ (or-from (eqb b 43) (eqb b 45) (ne-eqb b 43 (p (omega arith))) (ne-eqb b 45 (m (omega arith)))))
 
 -- whether it begins with a minus
 pub is-minus-text : (text : List ℕ) → 1 ≤ length text → getD text 0 0 ≡ 45 → true ≡ is-minus (sign-of text)

@@ -1,11 +1,11 @@
 -- A float that is whole and below 2 ^ 53 in size.
 use mathlib.Core.Path.{_≡_, refl, sym, ap, _∙_, subst}
 use mathlib.Core.Logic.{inl, inr}
-use mathlib.Core.Bool.{Bool, true, false, cond, not, _&&_, _||_, true≢false}
+use mathlib.Core.Bool.{Bool, true, false, _&&_, true≢false}
 use Prim.Native.Nat.{ℕ, zero, suc, _+_, _-_, _*_, _/_, _%_, _^_, _≤_, _<_, min}
-use native.Mathlib.Nat.{mul-one, mul-right-comm, mul-comm, mul-div-cancel, mul-mod-left, div-add-mod', eq-of-mul-eq-mul-right, add-zero, le-of-lt}
+use native.Mathlib.Nat.{mul-one, mul-right-comm, mul-div-cancel, mul-mod-left, div-add-mod', eq-of-mul-eq-mul-right, le-of-lt}
 use native.Mathlib.Omega.{arith}
-use lib.Dec.{T, eqb, ltb}
+use lib.Dec.{eqb, ltb}
 use lib.IntN.{ℤ, pos}
 use lib.Ieee.{Float, nan, inf, fin, binary64, up, down, eq, round, ofInt, toUnsigned, isNan}
 use lib.Ieee.Fits.{down-pos}

@@ -1,12 +1,10 @@
 // Numbers printed in decimal.
 ghost use mathlib.Core.Path.{_≡_};
-ghost use mathlib.Core.Bool.{true};
-ghost use Prim.Native.Nat.{ℕ, _+_, _-_, _^_, _≤_, _<_};
-ghost use lib.IntN.{ℤ};
-ghost use lib.ListN.{length, drop};
+ghost use Prim.Native.Nat.{_^_, _≤_};
+ghost use lib.ListN.{drop};
 ghost use Rattle.std.specs.Options.{mapped};
 ghost use Rattle.std.specs.Written.{decimal};
-ghost use Rattle.std.specs.declared.option.Option.the-variants.{Some, None};
+ghost use Rattle.std.specs.declared.option.Option.the-variants.{Some};
 ghost use Rattle.number.specs.Forms.{signed-text, whole-text, whole-size, float-text};
 ghost use Rattle.number.specs.Stamp.{printed-text};
 ghost use Rattle.number.specs.Back.{Reads-back};

@@ -1,4 +1,4 @@
-use mathlib.Core.Path.{_≡_, sym, ap, subst, _∙_}
+use mathlib.Core.Path.{_≡_, sym, _∙_}
 use native.Mathlib.Omega.{arith}
 use Rattle.number.specs.Widths.{under-sign}
 use Rattle.decimal.proofs.Scales.{scale-found, scale-lost, falling, rising, less-places}

@@ -1,7 +1,5 @@
 use mathlib.Core.Path.{_≡_, sym, _∙_}
-use Prim.Native.Nat.{ℕ}
-use lib.Ieee.{Float, neg}
-use Rattle.std.specs.declared.result.Result.{Result}
+use lib.Ieee.{neg}
 use Rattle.std.specs.declared.result.Result.the-variants.{Ok, Err}
 use Rattle.std.proofs.shelf.Tests.{eqb-true, eq-eqb, and-parts, and-from, both-ways}
 use Rattle.decimal.specs.declared.fault.NumberFault.the-variants.{NotANumber, OutOfRange}

@@ -1,8 +1,5 @@
 use mathlib.Core.Path.{sym, ap, _∙_}
-use mathlib.Core.Bool.{true}
 use lib.Seq.{take-length, drop-length}
-use native.Mathlib.Omega.{arith}
-use borrow.Author.Needs.{needs}
 use Rattle.std.specs.shelf.Text.{allDigits}
 use Rattle.std.proofs.shelf.Lists.{take-all}
 use Rattle.decimal.proofs.Parting.{all-more, ends-at, ends-all}
