@@ -123,6 +123,7 @@ literal-is l s =
 pub grammar : (text : List ℕ) (l : Literal) → Spells text l → literal text ≡ Some l
 grammar text l h = ap literal (sym (h .1)) ∙ literal-is l (h .0)
 
+-- so no two sound literals spell one text
 pub one-literal : One-literal
 one-literal text k l h i = let p = grammar text k h in let q = grammar text l i in cc
 
@@ -133,6 +134,7 @@ beyond-none : (o : Option Float) → Err 14 ≡ or-beyond o → o ≡ None
 beyond-none None e = refl
 beyond-none (Some x) e = let k : _≡_ {A = ℕ} 0 1 = cc in let z : ⊥ = omega arith in absurd z
 
+-- a value that was read is the value
 beyond-some : (o : Option Float) (x : Float) → Ok x ≡ or-beyond o → o ≡ Some x
 beyond-some None x e = let k : _≡_ {A = ℕ} 0 1 = cc in let z : ⊥ = omega arith in absurd z
 beyond-some (Some y) x e = cc
@@ -142,6 +144,7 @@ no-refusal : (o : Option Float) → Err 13 ≡ or-beyond o → ⊥
 no-refusal None e = let k : _≡_ {A = ℕ} 13 14 = cc in omega arith
 no-refusal (Some x) e = let k : _≡_ {A = ℕ} 0 1 = cc in omega arith
 
+-- the answer, by what the text is taken apart to
 answered-at : (text : List ℕ) (o : Option Literal) → literal text ≡ o → (r : Result Float NumberFault) → numbered r ≡ or-refused o → Answered text r
 answered-at text None q (Ok x) e = let k : _≡_ {A = ℕ} 0 1 = cc in let z : ⊥ = omega arith in absurd z
 answered-at text None q (Err OutOfRange) e = let k : _≡_ {A = ℕ} 14 13 = cc in let z : ⊥ = omega arith in absurd z
@@ -150,5 +153,6 @@ answered-at text (Some l) q (Ok x) e = (l, (parts-spell text l q, beyond-some (a
 answered-at text (Some l) q (Err OutOfRange) e = (l, (parts-spell text l q, beyond-none (amount-of l) e))
 answered-at text (Some l) q (Err NotANumber) e = absurd (no-refusal (amount-of l) e)
 
+-- an answer that agrees with the definition is the answer by the grammar
 pub answered : (text : List ℕ) (r : Result Float NumberFault) → numbered r ≡ float-of-text text → Answered text r
 answered text r e = answered-at text (literal text) refl r e

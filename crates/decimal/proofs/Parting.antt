@@ -50,6 +50,7 @@ front-is (d ∷ ds) bs a n =
     let p = and-parts (asciiDigit d) (allDigits ds) a in
     cond-true _ _ _ (p .0) ∙ ap (λ (l : List ℕ). d ∷ l) (front-is ds bs (p .1) n)
 
+-- and what follows them is those bytes
 pub past-is : (ds bs : List ℕ) → allDigits ds ≡ true → front-digits bs ≡ [] → past-digits (ds ++ bs) ≡ bs
 past-is [] bs a n = sym (ap (λ (l : List ℕ). l ++ past-digits bs) n) ∙ front-past bs
 past-is (d ∷ ds) bs a n =
@@ -62,7 +63,7 @@ all-more bs i h a e =
     ap allDigits (take-more bs i 0 h)
     ∙ (all-append (take i bs) (getD bs i 0 ∷ []) ∙ and-from _ _ a (and-from _ true e refl))
 
--- the digits end at a byte that is none, or where the text ends
+-- the digits end at a byte that is none
 pub ends-at : (bs : List ℕ) (i : ℕ) → i < length bs → allDigits (take i bs) ≡ true → asciiDigit (getD bs i 0) ≡ false → (take i bs ≡ front-digits bs) × (drop i bs ≡ past-digits bs)
 ends-at bs i h a e =
     let n : front-digits (drop i bs) ≡ [] = ap front-digits (drop-cons bs i 0 h) ∙ cond-false _ _ _ e in (
@@ -70,14 +71,16 @@ ends-at bs i h a e =
       sym (past-is (take i bs) (drop i bs) a n) ∙ ap past-digits (take-append-drop i bs),
     )
 
+-- a text of digits alone is its own front
 pub ends-all : (bs : List ℕ) → allDigits bs ≡ true → (bs ≡ front-digits bs) × ([] ≡ past-digits bs)
 ends-all bs a =
     (sym (front-is bs [] a refl) ∙ ap front-digits (append-nil bs), sym (past-is bs [] a refl) ∙ ap past-digits (append-nil bs))
 
--- a text after its point
+-- a list without its first element
 rest-is : (b : ℕ) (bs : List ℕ) → take (length (b ∷ bs) - 1) (drop 1 (b ∷ bs)) ≡ bs
 rest-is b bs = ap (λ (k : ℕ). take k bs) (omega arith) ∙ take-length bs
 
+-- digits after the point are the fraction in front
 pub point-off : (text : List ℕ) → 1 ≤ length text → getD text 0 0 ≡ 46
     → (front-digits (take (length text - 1) (drop 1 text)) ≡ places (front-fraction text)) × (past-digits (take (length text - 1) (drop 1 text)) ≡ past-fraction text)
 point-off [] h e = let z : ⊥ = omega arith in absurd z

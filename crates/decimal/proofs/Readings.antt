@@ -27,6 +27,7 @@ heading-found : (o : Option Exponent) (p : Bool × List ℕ) → Some p ≡ mapp
 heading-found None p e = let k : _≡_ {A = ℕ} 0 1 = cc in let z : ⊥ = omega arith in absurd z
 heading-found (Some x) p e = (x, refl, cc)
 
+-- and that none was found
 heading-none : (o : Option Exponent) → None ≡ mapped heading o → o ≡ None
 heading-none None e = refl
 heading-none (Some x) e = let k : _≡_ {A = ℕ} 0 1 = cc in let z : ⊥ = omega arith in absurd z
@@ -43,9 +44,11 @@ closed-as s ds f x = over (numeral (ds ++ places f)) (record { sign = s; whole =
 -- A text taken apart: what follows the sign, the digits in front and what follows them, the places and what follows those.
 module _ (text body whole rest fraction last : List ℕ)
     (b : body ≡ after-sign text) (w : whole ≡ front-digits body) (r : rest ≡ past-digits body) (f : fraction ≡ places (front-fraction rest)) (t : last ≡ past-fraction rest) where
+  -- what follows the digits in front, from the text
   rest-is : rest ≡ past-digits (after-sign text)
   rest-is = r ∙ ap past-digits b
 
+  -- what is left for the exponent, from the text
   last-is : exponent-of last ≡ exponent-of (past-fraction (past-digits (after-sign text)))
   last-is = ap exponent-of (t ∙ ap past-fraction rest-is)
 

@@ -62,6 +62,7 @@ falling down power h e = turned power h ∙ sym (cond-true _ _ _ e)
     turned : (n : ℕ) → n < 10 ^ 4 → toZ w32 (ofZ w32 (pos 0 -ℤ toZ w32 n)) ≡ negℤ (pos n)
     turned n l = omega (arith, ints)
 
+-- the same without a minus
 pub rising : (down : Bool) (power : ℕ) → power < 10 ^ 4 → down ≡ false → toZ w32 power ≡ under-sign down power
 rising down power h e = plain power h ∙ sym (cond-false _ _ _ e)
   where

@@ -106,6 +106,7 @@ scaled-down w (pos k) z n t h q i p v = absurd (true≢false (sym (leb·zero k) 
 scaled-down w (negsuc k) z n t h q i p v =
     over binary64 (ofInt binary64 (pos w)) t w (10 ^ n) (one-le-pow n 10 (zero-lt-suc 9)) (whole-value w (small w h)) v ∙ ap (λ (x : ℕ). round binary64 false w (10 ^ x)) (i ∙ ap natAbs q)
 
+-- zero by its bits is 0 rounded
 zero-is : ofBits binary64 0 ≡ round binary64 false 0 1
 unfolding ofBits round
 zero-is = refl
@@ -125,19 +126,23 @@ unfolding odd neg
 neg-odd d zero k l = refl
 neg-odd d (suc q) k l = refl
 
+-- or to an infinity
 neg-cond : (b : Bool) (x y : Float) → neg x ≡ y → neg (cond b x (inf false)) ≡ cond b y (inf true)
 unfolding neg
 neg-cond true x y e = e
 neg-cond false x y e = refl
 
+-- so in units of the smallest value
 neg-units : (f : Format) (q k : ℕ) → neg (units f false q k) ≡ units f true q k
 unfolding units
 neg-units f q k = neg-cond (ltb (q * 2 ^ k) (2 ^ (low f + suc (emax f)))) _ _ (neg-odd (suc (prec f)) q k (low f))
 
+-- so for any fraction
 neg-round : (f : Format) (a b : ℕ) → neg (round f false a b) ≡ round f true a b
 unfolding round
 neg-round f a b = neg-units f _ _
 
+-- the nearest float of a number under a minus is that of the number, turned over
 pub neg-decimal : (w : ℕ) (e : ℤ) → neg (nearest-decimal false w e) ≡ nearest-decimal true w e
 neg-decimal w (pos k) = neg-round binary64 (w * 10 ^ k) 1
 neg-decimal w (negsuc k) = neg-round binary64 w (10 ^ suc k)

@@ -31,6 +31,7 @@ module _ (xs : List ℕ) (n left at : ℕ) (N : n ≤ 2 ^ 63) (len : length xs �
       let c : 0 < length (decimal left) = decimal-some left (omega arith) in
       omega (arith, length-drop at xs)
 
+  -- what stands from there on, once a byte is put before
   after : (v : ℕ) → drop (at - 1) (set xs (at - 1) v) ≡ v ∷ drop at xs
   after v = put-before xs at v (omega (arith, room)) (omega arith)
 
@@ -46,10 +47,11 @@ module _ (xs : List ℕ) (n left at : ℕ) (N : n ≤ 2 ^ 63) (len : length xs �
   pub last : left < 10 → drop (at - 1) (set xs (at - 1) (48 + left)) ≡ decimal n
   last h = after (48 + left) ∙ ap (λ (l : List ℕ). l ++ drop at xs) (sym (decimal-digit left h)) ∙ inv
 
--- digits after a minus, and digits alone
+-- digits after a minus
 pub with-minus : (xs ys : List ℕ) (minus : Bool) (n at start : ℕ) → ys ≡ set xs (at - 1) 45 → start ≡ at - 1 → minus ≡ true → 1 ≤ at → at ≤ length xs → drop at xs ≡ decimal n → drop start ys ≡ signed-text minus n
 with-minus xs ys minus n at start q s m r t d =
     (λ i. drop (s i) (q i)) ∙ (put-before xs at 45 r t ∙ (ap (λ (l : List ℕ). 45 ∷ l) d ∙ sym (cond-true _ _ _ m)))
 
+-- digits alone
 pub without-minus : (xs ys : List ℕ) (minus : Bool) (n at start : ℕ) → ys ≡ xs → start ≡ at → minus ≡ false → drop at xs ≡ decimal n → drop start ys ≡ signed-text minus n
 without-minus xs ys minus n at start q s m d = (λ i. drop (s i) (q i)) ∙ (d ∙ sym (cond-false _ _ _ m))

@@ -53,19 +53,20 @@ too-large n b bs h = cond-false _ _ _ (and-right _ _ (le-ltb _ _ (le-trans h (va
 front : (ds : List ℕ) (i : ℕ) → i < length ds → drop i ds ≡ getD ds i 0 ∷ drop (i + 1) ds
 front ds i h = drop-cons ds i 0 h ∙ ap (λ (k : ℕ). getD ds i 0 ∷ drop k ds) (sym (add-one i))
 
--- A loop over digits: n is read and the rest from i on is left, which together are the whole. So one more digit is read,
+-- A loop over digits: n is read and the rest from i on is left, which together are the whole.
 module _ (n a i : ℕ) (ds : List ℕ) (h : i < length ds) (inv : digits-after n (drop i ds) ≡ digits-after a ds) where
   left-is : digits-after n (getD ds i 0 ∷ drop (i + 1) ds) ≡ digits-after a ds
   left-is = ap (digits-after n) (sym (front ds i h)) ∙ inv
 
+  -- one more digit
   pub read-more : (m : ℕ) → asciiDigit (getD ds i 0) ≡ true → m ≡ n * 10 + (getD ds i 0 - 48) → digits-after m (drop (i + 1) ds) ≡ digits-after a ds
   read-more m e q = ap (λ (k : ℕ). digits-after k (drop (i + 1) ds)) q ∙ (digit-more n (getD ds i 0) (drop (i + 1) ds) e ∙ left-is)
 
-  -- or the byte is no digit,
+  -- a byte that is no digit
   pub read-no-digit : asciiDigit (getD ds i 0) ≡ false → None ≡ digits-after a ds
   read-no-digit e = sym (no-digit n (getD ds i 0) (drop (i + 1) ds) e) ∙ left-is
 
-  -- or the number is too large
+  -- a number that is too large
   pub read-too-large : 2 ^ 64 ≤ n * 10 + (getD ds i 0 - 48) → None ≡ digits-after a ds
   read-too-large l = sym (too-large n (getD ds i 0) (drop (i + 1) ds) l) ∙ left-is
 
@@ -74,19 +75,21 @@ pub read-all : (n a i : ℕ) (ds : List ℕ) → n < 2 ^ 64 → i ≡ length ds 
 read-all n a i ds l e inv =
     sym (cond-true _ _ _ (lt-ltb n (2 ^ 64) l)) ∙ (ap (digits-after n) (sym (ap (λ (k : ℕ). drop k ds) e ∙ drop-length ds)) ∙ inv)
 
--- what a test says that was passed, and one that was not
+-- what a test says that was passed
 pub some-is : {A : Type 0} (b : Bool) (x y : A) → Some y ≡ cond b (Some x) None → (b ≡ true) × (x ≡ y)
 some-is true x y e = (refl, cc)
 some-is false x y e = let k : _≡_ {A = ℕ} 0 1 = cc in let z : ⊥ = omega arith in absurd z
 
+-- and one that was not passed
 pub none-is : {A : Type 0} (b : Bool) (x : A) → None ≡ cond b (Some x) None → b ≡ false
 none-is true x e = let k : _≡_ {A = ℕ} 0 1 = cc in let z : ⊥ = omega arith in absurd z
 none-is false x e = refl
 
--- digits that were read, and digits that write too large a number
+-- digits that were read
 pub read-value : (n m : ℕ) (ds : List ℕ) → Some m ≡ digits-after n ds → value-after n ds ≡ m
 read-value n m ds e = some-is (allDigits ds && ltb (value-after n ds) (2 ^ 64)) (value-after n ds) m e .1
 
+-- digits that write a number of more than 64 bits
 pub large-value : (n : ℕ) (ds : List ℕ) → allDigits ds ≡ true → None ≡ digits-after n ds → 2 ^ 64 ≤ value-after n ds
 large-value n ds a e = elim (and-cases (allDigits ds) (ltb (value-after n ds) (2 ^ 64)) (none-is _ _ e)) [
   | inl b ↦ absurd (true≢false (sym a ∙ b))
@@ -105,6 +108,7 @@ module _ (w : Wide) (within : (z : ℤ) → fits w z ≡ true → fits (signed 6
   outside : (z : ℤ) → fits (signed 63) z ≡ false → fits w z ≡ false
   outside z e = elim (cases-bool (fits w z)) [ inl f ↦ absurd (true≢false (sym (within z f) ∙ e)) | inr f ↦ f ]
 
+  -- digits that are not none
   numeral-of : (ds : List ℕ) → (length ds ≡ 0 → ⊥) → numeral ds ≡ allDigits ds
   numeral-of [] h = absurd (h refl)
   numeral-of (d ∷ ds) h = refl
@@ -150,10 +154,11 @@ module _ (w : Wide) (within : (z : ℤ) → fits w z ≡ true → fits (signed 6
           pub not-held : false ≡ fits w y → None ≡ digits-in w minus ds
           not-held f = sym (cond-false _ _ _ (and-right (numeral ds) _ (ap (fits w) value-is ∙ (sym (ap (fits w) same) ∙ sym f))))
 
--- a text after its sign
+-- a list without its first element
 rest-is : (b : ℕ) (bs : List ℕ) → take (length (b ∷ bs) - 1) (drop 1 (b ∷ bs)) ≡ bs
 rest-is b bs = ap (λ (k : ℕ). take k bs) (omega arith) ∙ take-length bs
 
+-- what follows a sign byte
 pub sign-off : (text : List ℕ) → 1 ≤ length text → (getD text 0 0 ≡ 43) ⊎ (getD text 0 0 ≡ 45) → take (length text - 1) (drop 1 text) ≡ after-sign text
 sign-off [] h e = let z : ⊥ = omega arith in absurd z
 sign-off (b ∷ bs) h (inl e) = rest-is b bs ∙ sym (cond-true _ _ _ (or-left (eqb b 43) (eqb b 45) (eq-eqb b 43 e)))
@@ -164,6 +169,7 @@ pub is-minus-text : (text : List ℕ) → 1 ≤ length text → getD text 0 0 �
 is-minus-text [] h e = let z : ⊥ = omega arith in absurd z
 is-minus-text (b ∷ bs) h e = sym (ap is-minus (cond-false (eqb b 43) plus _ (ne-eqb b 43 (λ q. omega arith)) ∙ cond-true (eqb b 45) minus bare (eq-eqb b 45 e)))
 
+-- and that it does not
 pub no-minus-text : (text : List ℕ) → (1 ≤ length text → getD text 0 0 ≡ 45 → ⊥) → false ≡ is-minus (sign-of text)
 no-minus-text [] m = refl
 no-minus-text (b ∷ bs) m = sym (cond-both (eqb b 43) plus (cond (eqb b 45) minus bare) (λ s. is-minus s ≡ false) (λ _. refl) (λ _. ap is-minus (cond-false (eqb b 45) minus bare (ne-eqb b 45 (m (omega arith))))))
@@ -195,6 +201,7 @@ of-sign bare bs h = h
 of-sign plus bs h = (refl, refl)
 of-sign minus bs h = (refl, refl)
 
+-- a byte that is no sign
 pub other-bare : (b : ℕ) (bs : List ℕ) → (b ≡ 43 → ⊥) → (b ≡ 45 → ⊥) → Bare (b ∷ bs)
 other-bare b bs p m = (
   cond-false (eqb b 43) plus _ (ne-eqb b 43 p) ∙ cond-false (eqb b 45) minus bare (ne-eqb b 45 m),
@@ -207,16 +214,18 @@ digit-bare b bs e =
     let low : 48 ≤ b = leb-true _ _ (and-parts (leb 48 b) (leb b 57) e .0) in
     other-bare b bs (λ q. omega arith) (λ q. omega arith)
 
+-- so does a numeral
 pub numeral-bare : (ds : List ℕ) → numeral ds ≡ true → Bare ds
 numeral-bare [] e = absurd (true≢false (sym e))
 numeral-bare (d ∷ ds) e = digit-bare d ds (and-parts (asciiDigit d) (allDigits ds) e .0)
 
--- a minus that the width does not have
+-- a sign that was not refused is allowed
 allowed-by : (m h : Bool) → (m && not h) ≡ false → (not m || h) ≡ true
 allowed-by true true e = refl
 allowed-by true false e = absurd (true≢false e)
 allowed-by false h e = refl
 
+-- and one that is allowed is not refused
 refused-by : (m h : Bool) → (not m || h) ≡ true → (m && not h) ≡ false
 refused-by true true e = refl
 refused-by true false e = absurd (true≢false (sym e))
@@ -267,6 +276,7 @@ own = numerals-by-fold _ tells-allDigits value-after (search needs)
 pub value-below : (ds : List ℕ) (k : ℕ) → allDigits ds ≡ true → length ds ≤ k → value-after 0 ds < 10 ^ k
 value-below ds k a l = value-short own ds k a l
 
+-- a number in decimal is a numeral
 numeral-decimal : (n : ℕ) → n < 2 ^ 64 → numeral (decimal n) ≡ true
 numeral-decimal n h = some-digits (decimal n) (decimal-some n h) (digits-decimal own n h)
   where
@@ -283,6 +293,7 @@ reads-back false n h f =
     read (signed 63) (decimal n) (under-sign false n)
     (record { sign = bare; digits = decimal n; whole = refl; some = numeral-decimal n h; allowed = refl; value = ap (under-sign false) (value-decimal own n h); room = f })
 
+-- a whole number of 64 bits is read back
 pub whole-back : (z : ℤ) → mag z < 2 ^ 63 → whole-of-text (signed 63) (whole-text z) ≡ Some z
 whole-back (pos n) h = reads-back false n (omega arith) (lt-ltb n (2 ^ 63) h)
 whole-back (negsuc n) h = reads-back true (suc n) (omega arith) (lt-ltb n (2 ^ 63) h)

@@ -36,10 +36,12 @@ eqb-scale a b d D = elim (cases-eq a b) [
   | inr n ↦ ne-eqb (a * d) (b * d) (λ e. n (eq-of-mul-eq-mul-right d D a b e)) ∙ sym (ne-eqb a b n)
 ]
 
+-- a test beside one that is passed
 and-true : (b : Bool) → (b && true) ≡ b
 and-true true = refl
 and-true false = refl
 
+-- a fraction compared with a whole number
 scaled : (K d c A D : ℕ) → 0 < d → K * 1 ≡ c * d → (eqb (K * D) (A * d) && true) ≡ eqb (c * D) A
 scaled K d c A D p h =
     and-true (eqb (K * D) (A * d))

@@ -9,10 +9,13 @@ use std::num::saturating_f64_to_u32;
 
 // A type of whole numbers, all of which fit 64 bits with a sign.
 pub trait Width: Sized {
+    // The width, as the definitions have it.
     ghost wide: { Wide };
 
+    // The number that a value stands for.
     ghost number: { Self → ℤ };
 
+    // Its numbers are among those of 63 bits and a sign.
     law within: { (z : ℤ) → fits wide z ≡ true → fits (signed 63) z ≡ true };
 
     // Whether the width has this number.
