@@ -1,0 +1,4 @@
+pub mod Grammar
+pub mod Amount
+pub mod Fault
+pub mod Answer
