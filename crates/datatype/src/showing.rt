@@ -1,5 +1,5 @@
 // The errors as a spreadsheet writes them.
-ghost use Rattle.std.specs.declared.option.Option.«the-variants».{Some};
+ghost use Rattle.std.specs.declared.option.Option.the-variants.{Some};
 ghost use Rattle.datatype.specs.Errors.{«error-text»};
 use crate::cell_error_type::CellErrorType;
 use std::fmt;

@@ -11,7 +11,7 @@ ghost use Rattle.number.specs.Widths.{under-sign};
 ghost use Rattle.decimal.specs.Amount.{in-reach, nearest-decimal, amount};
 use number::digits::read_digits;
 
-// The powers of ten that are floats exactly.
+/// The powers of ten that are floats exactly.
 const TENS: [f64; 23] = [
     1e0,
     1e1,
@@ -38,21 +38,21 @@ const TENS: [f64; 23] = [
     1e22,
 ];
 
-// Whole numbers below 10^15 are floats exactly.
+/// Whole numbers below 10^15 are floats exactly.
 const LIMIT: u64 = 1_000_000_000_000_000;
 
-// The greatest exponent of a power of ten that is a float exactly.
+/// The greatest exponent of a power of ten that is a float exactly.
 const REACH: u32 = 22;
 
-// How many digits an exponent may have.
+/// How many digits an exponent may have.
 const EXPONENT_DIGITS: usize = 4;
 
-// An exponent of four digits does not make up for as many places.
+/// An exponent of four digits does not make up for as many places.
 const MANY_PLACES: usize = 20_000;
 
-// All digits as one whole number times ten to the scale. None where there are more than four
-// exponent digits, where the number is 10^15 or more, or where the scale is out of reach and the
-// number is not 0.
+/// All digits as one whole number times ten to the scale. None where there are more than four
+/// exponent digits, where the number is 10^15 or more, or where the scale is out of reach and the
+/// number is not 0.
 pub(crate) fn read_amount(whole: &[u8], fraction: &[u8], down: bool, exponent: &[u8]) -> Option<f64>
     requires wholes { ⌜ allDigits (now whole) ≡ true ⌝ }
     requires fractions { ⌜ allDigits (now fraction) ≡ true ⌝ }
@@ -75,14 +75,14 @@ pub(crate) fn read_amount(whole: &[u8], fraction: &[u8], down: bool, exponent: &
     Some(scale_by_ten(number, scale))
 }
 
-// Whether a number is small enough to be read.
+/// Whether a number is small enough to be read.
 fn is_read(number: u64) -> bool
     ensures { λ r. ⌜ r ≡ ltb number (10 ^ 15) ⌝ }
 {
     number < LIMIT
 }
 
-// The exponent less the number of places, where it is from -22 to 22.
+/// The exponent less the number of places, where it is from -22 to 22.
 fn find_scale(down: bool, power: u64, places: usize) -> Option<i32>
     requires { ⌜ power < 10 ^ 4 ⌝ }
     ensures { λ r. ⌜ r ≡ cond («in-reach» («under-sign» down power -ℤ pos places)) (Some («under-sign» down power -ℤ pos places)) None ⌝ }
@@ -96,7 +96,7 @@ fn find_scale(down: bool, power: u64, places: usize) -> Option<i32>
     }
 }
 
-// A number times ten to the scale: one rounded product or quotient of exact floats.
+/// A number times ten to the scale: one rounded product or quotient of exact floats.
 fn scale_by_ten(number: u64, scale: i32) -> f64
     requires small { ⌜ number < 10 ^ 15 ⌝ }
     requires reached { ⌜ «in-reach» scale ≡ true ⌝ }
@@ -111,7 +111,7 @@ fn scale_by_ten(number: u64, scale: i32) -> f64
     }
 }
 
-// A power of ten, exactly.
+/// A power of ten, exactly.
 fn ten_to(power: usize) -> f64
     requires { ⌜ power < 23 ⌝ }
     ensures { λ r. ⌜ HasValue r false (10 ^ power) 1 ⌝ }

@@ -2,8 +2,8 @@
 
 #[derive(Clone, Copy, PartialEq, Eq, Debug)]
 pub enum NumberFault {
-    // The text is no number text. Number 13.
+    /// The text is no number text. Number 13.
     NotANumber,
-    // The number lies beyond what one rounding of exact numbers reads. Number 14.
+    /// The number lies beyond what one rounding of exact numbers reads. Number 14.
     OutOfRange,
 }

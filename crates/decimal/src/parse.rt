@@ -11,9 +11,9 @@ use crate::split::split_exponent;
 use crate::split::split_fraction;
 use number::sign::split_sign;
 
-// The float nearest to the number that a text writes, at a tie the even one. The text is an
-// optional sign, digits with at most one point and at least one digit on some side of it, and an
-// optional exponent: `e` or `E`, an optional sign and at least one digit.
+/// The float nearest to the number that a text writes, at a tie the even one. The text is an
+/// optional sign, digits with at most one point and at least one digit on some side of it, and an
+/// optional exponent: `e` or `E`, an optional sign and at least one digit.
 pub fn parse_float(text: &[u8]) -> Result<f64, NumberFault>
     ensures value { λ r. ⌜ numbered r ≡ «float-of-text» (now (text .entry)) ⌝ }
     ensures answered { λ r. ⌜ Answered (now (text .entry)) r ⌝ }

@@ -8,7 +8,7 @@ ghost use Rattle.decimal.specs.Grammar.{places, front-digits, past-digits, fro
 ghost use Rattle.decimal.specs.Amount.{heading, power-of};
 use number::sign::split_sign;
 
-// The digits that a text begins with, and what follows them.
+/// The digits that a text begins with, and what follows them.
 pub(crate) fn split_digits(text: &[u8]) -> (&[u8], &[u8])
     ensures digits { λ r. ⌜ now (r .0) ≡ «front-digits» (now (text .entry)) ⌝ }
     ensures rest { λ r. ⌜ now (r .1) ≡ «past-digits» (now (text .entry)) ⌝ }
@@ -21,8 +21,8 @@ pub(crate) fn split_digits(text: &[u8]) -> (&[u8], &[u8])
     text.split_at(text.len())
 }
 
-// The digits after a point that a text begins with, and what follows them. No digits where it
-// begins with no point.
+/// The digits after a point that a text begins with, and what follows them. No digits where it
+/// begins with no point.
 pub(crate) fn split_fraction(text: &[u8]) -> (&[u8], &[u8])
     ensures digits { λ r. ⌜ now (r .0) ≡ places («front-fraction» (now (text .entry))) ⌝ }
     ensures rest { λ r. ⌜ now (r .1) ≡ «past-fraction» (now (text .entry)) ⌝ }
@@ -33,8 +33,8 @@ pub(crate) fn split_fraction(text: &[u8]) -> (&[u8], &[u8])
     }
 }
 
-// Whether an exponent is negative, and its digits; no digits where the text is empty. None where
-// the text is no exponent from end to end.
+/// Whether an exponent is negative, and its digits; no digits where the text is empty. None where
+/// the text is no exponent from end to end.
 pub(crate) fn split_exponent(text: &[u8]) -> Option<(bool, &[u8])>
     ensures { λ r. ⌜ mapped {U = Bool × List ℕ} (λ p. (p .0, now (p .1))) r ≡ mapped heading («exponent-of» (now (text .entry))) ⌝ }
 {
@@ -45,8 +45,8 @@ pub(crate) fn split_exponent(text: &[u8]) -> Option<(bool, &[u8])>
     }
 }
 
-// Whether a text begins with a minus, and its digits: an optional sign, at least one digit and
-// nothing else.
+/// Whether a text begins with a minus, and its digits: an optional sign, at least one digit and
+/// nothing else.
 fn split_power(text: &[u8]) -> Option<(bool, &[u8])>
     ensures { λ r. ⌜ mapped {U = Bool × List ℕ} (λ p. (p .0, now (p .1))) r ≡ «power-of» (now (text .entry)) ⌝ }
 {

@@ -2,8 +2,8 @@
 ghost use mathlib.Core.Path.{_≡_};
 ghost use Rattle.number.specs.Numerals.{digits-after};
 
-// The number that digits write after those of `after`. None where a byte is no digit, or where
-// the number has more than 64 bits.
+/// The number that digits write after those of `after`. None where a byte is no digit, or where
+/// the number has more than 64 bits.
 pub fn read_digits(after: u64, digits: &[u8]) -> Option<u64>
     ensures { λ r. ⌜ r ≡ «digits-after» after (now (digits .entry)) ⌝ }
 {

@@ -9,8 +9,8 @@ use crate::digits::read_digits;
 use crate::sign::split_sign;
 use crate::width::Width;
 
-// The number that a text writes: an optional sign, a minus only in a width that has one, and at
-// least one digit, where that number fits. None otherwise, which a reader refuses by number 13.
+/// The number that a text writes: an optional sign, a minus only in a width that has one, and at
+/// least one digit, where that number fits. None otherwise, which a reader refuses by number 13.
 pub fn parse_whole<W: Width>(text: &[u8]) -> Option<W>
     ensures value { λ r. ⌜ mapped (W·Width .number) r ≡ «whole-of-text» (W·Width .wide) (now (text .entry)) ⌝ }
     ensures written { λ _. ⌜ ((z : ℤ) → «whole-of-text» (W·Width .wide) (now (text .entry)) ≡ Some z → Writes (W·Width .wide) (now (text .entry)) z) ⌝ }
@@ -24,7 +24,7 @@ pub fn parse_whole<W: Width>(text: &[u8]) -> Option<W>
     }
 }
 
-// Digits under a sign, as a number of the width.
+/// Digits under a sign, as a number of the width.
 fn parse_digits<W: Width>(minus: bool, digits: &[u8]) -> Option<W>
     ensures { λ r. ⌜ mapped (W·Width .number) r ≡ «digits-in» (W·Width .wide) minus (now (digits .entry)) ⌝ }
 {
@@ -40,7 +40,7 @@ fn parse_digits<W: Width>(minus: bool, digits: &[u8]) -> Option<W>
     }
 }
 
-// A size under a sign, where it has at most 64 bits.
+/// A size under a sign, where it has at most 64 bits.
 fn signed_size(minus: bool, size: u64) -> Option<i64>
     ensures { λ r. ⌜ r ≡ «if-fits» (signed 63) («under-sign» minus size) ⌝ }
 {

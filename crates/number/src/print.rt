@@ -14,7 +14,7 @@ use crate::printed::Printed;
 use std::num::saturating_f64_to_u64;
 
 impl Printed {
-    // The bytes of the printed number.
+    /// The bytes of the printed number.
     pub fn as_bytes(&self) -> &[u8]
         ensures { λ r. ⌜ now r ≡ «printed-text» (now (self .entry)) ⌝ }
     {
@@ -22,7 +22,7 @@ impl Printed {
     }
 }
 
-// A whole number in decimal.
+/// A whole number in decimal.
 pub fn print_whole(n: i64) -> Printed
     ensures text { λ r. ⌜ «printed-text» r ≡ «whole-text» n ⌝ }
     ensures back { λ r. ⌜ «whole-of-text» (signed 63) («printed-text» r) ≡ Some n ⌝ }
@@ -30,8 +30,8 @@ pub fn print_whole(n: i64) -> Printed
     print_signed(n < 0, n.unsigned_abs())
 }
 
-// A float that is whole and below 2^53 in size in decimal, minus zero as `-0`. None for any other
-// float, which has no text form: a reader refuses it by number 8.
+/// A float that is whole and below 2^53 in size in decimal, minus zero as `-0`. None for any other
+/// float, which has no text form: a reader refuses it by number 8.
 pub fn print_float(x: f64) -> Option<Printed>
     ensures text { λ r. ⌜ mapped «printed-text» r ≡ «float-text» x ⌝ }
     ensures back { λ _. ⌜ «Reads-back» x ⌝ }
@@ -40,7 +40,7 @@ pub fn print_float(x: f64) -> Option<Printed>
     Some(print_signed(minus, size))
 }
 
-// A size in decimal, after a minus where there is one.
+/// A size in decimal, after a minus where there is one.
 fn print_signed(minus: bool, size: u64) -> Printed
     requires { ⌜ size ≤ 2 ^ 63 ⌝ }
     ensures { λ r. ⌜ «printed-text» r ≡ «signed-text» minus size ⌝ }
@@ -54,7 +54,7 @@ fn print_signed(minus: bool, size: u64) -> Printed
     Printed { bytes, start }
 }
 
-// Writes the digits of a size at the end of the bytes, and tells where they begin.
+/// Writes the digits of a size at the end of the bytes, and tells where they begin.
 fn write_digits(bytes: &mut [u8; 20], size: u64) -> usize
     requires { ⌜ size ≤ 2 ^ 63 ⌝ }
     ensures room { λ r. ⌜ 1 ≤ r ⌝ }
@@ -73,7 +73,7 @@ fn write_digits(bytes: &mut [u8; 20], size: u64) -> usize
     start
 }
 
-// The sign and the size of a float that is whole and below 2^53 in size.
+/// The sign and the size of a float that is whole and below 2^53 in size.
 fn whole_size(x: f64) -> Option<(bool, u64)>
     ensures { λ r. ⌜ r ≡ «whole-size» x ⌝ }
 {

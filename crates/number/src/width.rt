@@ -7,7 +7,7 @@ use std::num::saturating_f64_to_i64;
 use std::num::saturating_f64_to_u8;
 use std::num::saturating_f64_to_u32;
 
-// A type of whole numbers, all of which fit 64 bits with a sign.
+/// A type of whole numbers, all of which fit 64 bits with a sign.
 pub trait Width: Sized {
     // The width, as the definitions have it.
     ghost wide: { Wide };
@@ -18,15 +18,15 @@ pub trait Width: Sized {
     // Its numbers are among those of 63 bits and a sign.
     law within: { (z : ℤ) → fits wide z ≡ true → fits (signed 63) z ≡ true };
 
-    // Whether the width has this number.
+    /// Whether the width has this number.
     fn holds(n: i64) -> bool
         ensures { λ r. ⌜ r ≡ fits wide n ⌝ };
 
-    // The float without its fraction, clamped to the width; 0 for not-a-number.
+    /// The float without its fraction, clamped to the width; 0 for not-a-number.
     fn narrow_float(x: f64) -> Self
         ensures { λ r. ⌜ number r ≡ «narrow-float» wide x ⌝ };
 
-    // The low bits of the number, as many as the width has.
+    /// The low bits of the number, as many as the width has.
     fn narrow_whole(n: i64) -> Self
         ensures { λ r. ⌜ number r ≡ «narrow-whole» wide n ⌝ };
 }

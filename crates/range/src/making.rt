@@ -6,7 +6,7 @@ ghost use Prim.Native.Nat.{_*_, _^_, _≤_};
 ghost use lib.ListN.{length};
 ghost use Rattle.std.specs.Results.{isOk};
 ghost use Rattle.std.specs.Vec.{made};
-ghost use Rattle.std.specs.declared.result.Result.«the-variants».{Ok};
+ghost use Rattle.std.specs.declared.result.Result.the-variants.{Ok};
 ghost use Rattle.range.specs.Questions.{«refusal-of», «first-no»};
 ghost use Rattle.range.specs.Shapes.{span, Lawful, «rows-of», «columns-of»};
 ghost use Rattle.range.specs.Making.{told, making, «corner-questions»};

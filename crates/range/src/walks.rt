@@ -5,7 +5,7 @@ ghost use denote.Ref.{now as behind};
 ghost use Rattle.std.specs.Options.{mapped};
 ghost use Rattle.range.specs.Sheets.{sheet, height, width, «row-at», «cell-at»};
 ghost use Rattle.std.specs.Finite.{nth};
-ghost use Rattle.std.specs.declared.option.Option.«the-variants».{Some};
+ghost use Rattle.std.specs.declared.option.Option.the-variants.{Some};
 ghost use Prim.Native.Nat.{ℕ, _*_};
 ghost use Rattle.range.specs.Walks.{«rows-left», «rows-of-sheet», «cells-left», «cells-of-sheet», «First-taken», «Last-taken», «cell-shown»};
 use crate::cells::Cells;

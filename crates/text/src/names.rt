@@ -66,7 +66,7 @@ impl<'text> Names<'text, '_> {
     }
 }
 
-// The bytes from start to end: none where end lies before start or past the text.
+/// The bytes from start to end: none where end lies before start or past the text.
 fn bytes_between(text: &[u8], start: usize, end: usize) -> Option<&[u8]>
     ensures lies { λ r. ⌜ Cases r ((start ≤ end) × (end ≤ length (now (text .entry))) → ⊥) (λ _. (start ≤ end) × (end ≤ length (now (text .entry)))) ⌝ }
     ensures bytes { λ r. ⌜ found r (λ part. now part ≡ slice (now (text .entry)) start end) ⌝ }

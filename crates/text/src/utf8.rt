@@ -49,7 +49,7 @@ pub fn is_utf8(bytes: &[u8]) -> bool
     true
 }
 
-// A code point from 0x80 on; one below has a shorter form.
+/// A code point from 0x80 on; one below has a shorter form.
 fn two_bytes(lead: u8, second: u8) -> Option<Decoded>
     requires { ⌜ lead / 32 ≡ 6 ⌝ }
     ensures { λ r. ⌜ ((rest : List ℕ) → FirstCharacter (lead ∷ second ∷ rest) r) ⌝ }
@@ -66,7 +66,7 @@ fn two_bytes(lead: u8, second: u8) -> Option<Decoded>
     }
 }
 
-// A code point from 0x800 on that is no surrogate (0xd800 to 0xdfff).
+/// A code point from 0x800 on that is no surrogate (0xd800 to 0xdfff).
 fn three_bytes(lead: u8, second: u8, third: u8) -> Option<Decoded>
     requires { ⌜ lead / 16 ≡ 14 ⌝ }
     ensures { λ r. ⌜ ((rest : List ℕ) → FirstCharacter (lead ∷ second ∷ third ∷ rest) r) ⌝ }
@@ -83,7 +83,7 @@ fn three_bytes(lead: u8, second: u8, third: u8) -> Option<Decoded>
     }
 }
 
-// A code point from 0x1_0000 to 0x10_ffff.
+/// A code point from 0x1_0000 to 0x10_ffff.
 fn four_bytes(lead: u8, second: u8, third: u8, fourth: u8) -> Option<Decoded>
     requires { ⌜ lead / 8 ≡ 30 ⌝ }
     ensures { λ r. ⌜ ((rest : List ℕ) → FirstCharacter (lead ∷ second ∷ third ∷ fourth ∷ rest) r) ⌝ }
@@ -105,14 +105,14 @@ fn four_bytes(lead: u8, second: u8, third: u8, fourth: u8) -> Option<Decoded>
     }
 }
 
-// Is this a continuation byte, 10xx_xxxx?
+/// Is this a continuation byte, 10xx_xxxx?
 fn continues(byte: u8) -> bool
     ensures { λ r. ⌜ r ≡ leb 128 byte && ltb byte 192 ⌝ }
 {
     byte & 0xc0 == 0x80
 }
 
-// The bits so far, and below them the six that a continuation byte carries.
+/// The bits so far, and below them the six that a continuation byte carries.
 fn with_six_bits(high: u32, byte: u8) -> u32
     requires { ⌜ high < 2 ^ 20 ⌝ }
     ensures { λ r. ⌜ r ≡ high * 64 + byte % 64 ⌝ }
@@ -120,7 +120,7 @@ fn with_six_bits(high: u32, byte: u8) -> u32
     high << 6 | (byte & 0x3f) as u32
 }
 
-// The character of a scalar value.
+/// The character of a scalar value.
 fn character_of(code: u32) -> char
     requires { ⌜ scalar code ≡ true ⌝ }
     ensures { λ r. ⌜ r ≡ code ⌝ }
