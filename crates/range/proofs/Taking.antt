@@ -64,16 +64,20 @@ single [] x one e = absurd (omega arith)
 single (y ∷ []) x one e = ap (λ z. z ∷ []) (sym e)
 single (y ∷ z ∷ xs) x one e = absurd (omega arith)
 
--- the first cell, and the cells after it
-pub first-cell : {C : Type 0} (width place : ℕ) (cells front rest : List C) (x : C) → front ≡ take 1 cells → length front ≡ 1 → rest ≡ drop 1 cells → x ≡ getD front 0 x → numbered width place cells ≡ (place / width, place % width, x) ∷ numbered width (place + 1) rest
-first-cell width place cells front rest x e one d read =
+-- the first cell under its row and column, and the cells after it
+pub first-cell : {C : Type 0} (width place : ℕ) (cells front rest : List C) (row column : ℕ) (x : C) → front ≡ take 1 cells → length front ≡ 1 → rest ≡ drop 1 cells → row ≡ place / width → column ≡ place % width → x ≡ getD front 0 x → numbered width place cells ≡ (row, column, x) ∷ numbered width (place + 1) rest
+first-cell width place cells front rest row column x e one d r q read =
     let whole : cells ≡ x ∷ rest = sym (take-append-drop 1 cells) ∙ ap (λ l. l ++ drop 1 cells) (sym e) ∙ ap (λ l. front ++ l) (sym d) ∙ ap (λ l. l ++ rest) (single front x one read) in
     ap (numbered width place) whole
+    ∙ ap (λ n. (n, place % width, x) ∷ numbered width (place + 1) rest) (sym r)
+    ∙ ap (λ n. (row, n, x) ∷ numbered width (place + 1) rest) (sym q)
 
--- the last cell, and the cells before it
-pub last-cell : {C : Type 0} (width place : ℕ) (cells rest back : List C) (at : ℕ) (x : C) → rest ≡ take at cells → back ≡ drop at cells → length rest ≡ at → length back ≡ 1 → x ≡ getD back 0 x → numbered width place cells ≡ numbered width place rest ++ (((place + at) / width, (place + at) % width, x) ∷ [])
-last-cell width place cells rest back at x e d long one read =
+-- the last cell under its row and column, and the cells before it
+pub last-cell : {C : Type 0} (width place : ℕ) (cells rest back : List C) (at row column : ℕ) (x : C) → rest ≡ take at cells → back ≡ drop at cells → length rest ≡ at → length back ≡ 1 → row ≡ (place + at) / width → column ≡ (place + at) % width → x ≡ getD back 0 x → numbered width place cells ≡ numbered width place rest ++ ((row, column, x) ∷ [])
+last-cell width place cells rest back at row column x e d long one r q read =
     let whole : cells ≡ rest ++ (x ∷ []) = sym (take-append-drop at cells) ∙ ap (λ l. l ++ drop at cells) (sym e) ∙ ap (λ l. rest ++ l) (sym d) ∙ ap (λ l. rest ++ l) (single back x one read) in
     ap (numbered width place) whole
     ∙ cell-more width place rest x
     ∙ ap (λ n. numbered width place rest ++ (((place + n) / width, (place + n) % width, x) ∷ [])) long
+    ∙ ap (λ n. numbered width place rest ++ ((n, (place + at) % width, x) ∷ [])) (sym r)
+    ∙ ap (λ n. numbered width place rest ++ ((row, n, x) ∷ [])) (sym q)

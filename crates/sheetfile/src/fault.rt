@@ -1,6 +1,6 @@
 // Why a sheet file is not read.
 ghost use mathlib.Core.Path.{_≡_};
-ghost use Rattle.sheetfile.specs.declared.fault.FileFault.«the-variants».{Sheet};
+ghost use Rattle.sheetfile.specs.declared.fault.FileFault.the-variants.{Sheet};
 use range::fault::RangeFault;
 use range::fault::RangeFaultDebug;
 use range::fault::RangeFaultPartialEq;

@@ -4,7 +4,7 @@ ghost use mathlib.Core.Bool.{true};
 ghost use Prim.Native.Nat.{_≤_};
 ghost use lib.ListN.{length, take, drop};
 ghost use Rattle.std.specs.Results.{isOk, Cases};
-ghost use Rattle.std.specs.declared.result.Result.«the-variants».{Ok};
+ghost use Rattle.std.specs.declared.result.Result.the-variants.{Ok};
 ghost use Rattle.range.specs.Questions.{«refusal-of», «first-no»};
 ghost use Rattle.range.specs.Shapes.{Lawful};
 ghost use Rattle.range.specs.Sheets.{sheet, «made-of»};

@@ -1,4 +1,4 @@
-use mathlib.Core.Path.{_≡_, sym}
+use mathlib.Core.Path.{_≡_, refl, sym}
 use lib.ListN.{length}
 use native.Mathlib.Omega.{arith}
 use borrow.Author.Needs.{needs}
@@ -17,6 +17,6 @@ returns g c =
     let walk = c .args .self .now in
     let some : length (walk .cells .now) ≡ 0 → ⊥ = eqb-false _ 0 (sym (c .if-is-empty .ensures tt)) in
     record {
-      steps = last-cell (walk .width) (walk .place) (walk .cells .now) _ _ _ _ (c .split-at .ensures .front) (c .split-at .ensures .back) (c .split-at .ensures .front-len) (omega (arith, some, c .split-at .ensures .back-len)) (c .index-back-0 .is);
+      steps = last-cell (walk .width) (walk .place) (walk .cells .now) _ _ _ _ _ _ (c .split-at .ensures .front) (c .split-at .ensures .back) (c .split-at .ensures .front-len) (omega (arith, some, c .split-at .ensures .back-len)) refl refl (c .index-back-0 .is);
       goes = search needs;
     }

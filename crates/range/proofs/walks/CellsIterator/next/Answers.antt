@@ -1,4 +1,4 @@
-use mathlib.Core.Path.{_≡_, sym}
+use mathlib.Core.Path.{_≡_, refl, sym}
 use native.Mathlib.Omega.{arith}
 use lib.ListN.{length}
 use borrow.Author.Needs.{needs}
@@ -16,6 +16,6 @@ pub returns : need.returns
 returns g c =
     let walk = c .args .self .now in
     record {
-      steps = first-cell (walk .width) (walk .place) (walk .cells .now) _ _ _ (c .split-at .ensures .front) (c .split-at .ensures .front-len) (c .split-at .ensures .back) (c .index-front-0 .is);
+      steps = first-cell (walk .width) (walk .place) (walk .cells .now) _ _ _ _ _ (c .split-at .ensures .front) (c .split-at .ensures .front-len) (c .split-at .ensures .back) refl refl (c .index-front-0 .is);
       goes = search needs;
     }
