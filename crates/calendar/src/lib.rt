@@ -1,5 +1,7 @@
 // Serial dates of spreadsheets: a number of days since day 0, with the time of day as its fraction.
 // In the 1900 system day 0 is 1899-12-31, and 1900 is taken for a leap year; in the 1904 system day 0 is 1904-01-01.
+#![tactic(auto)]
+
 ghost use Rattle.std.specs.Prelude.{◌≡◌, Result};
 ghost use Rattle.calendar.specs.Serial.{answer, Says};
 

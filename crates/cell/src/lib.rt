@@ -1,4 +1,6 @@
 // The cell interface, after calamine's `ToCellDeserializer`, and the two kinds of cells.
+#![tactic(auto)]
+
 pub mod cell;
 pub mod count;
 mod data_cell;

@@ -1,5 +1,7 @@
 // The typed cell, after calamine's: its nine cases, the eight errors, and serial dates; what a cell's
 // value is, and the text form of a value.
+#![tactic(auto)]
+
 pub mod cell_error_type;
 pub mod coercion_fault;
 pub mod data;

@@ -1,4 +1,6 @@
 // Number text as a float.
+#![tactic(auto)]
+
 mod amount;
 pub mod fault;
 pub mod parse;

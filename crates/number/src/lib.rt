@@ -1,4 +1,6 @@
 // Whole numbers of three widths, as text and as floats.
+#![tactic(auto)]
+
 pub mod digits;
 pub mod float;
 pub mod parse;

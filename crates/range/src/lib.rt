@@ -1,4 +1,6 @@
 // A sheet: corners, cells row after row, and one text, all lent.
+#![tactic(auto)]
+
 mod access;
 pub mod cells;
 pub mod corners;

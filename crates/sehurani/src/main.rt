@@ -1,4 +1,6 @@
 // The office's and the workshop's tool over sheet files.
+#![tactic(auto)]
+
 mod cell_text;
 mod command;
 mod refusal;

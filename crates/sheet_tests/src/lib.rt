@@ -1,4 +1,6 @@
 // Tests of sheets, typed cells and sheet files through their public calls.
+#![tactic(auto)]
+
 #[cfg(test)]
 mod cells;
 #[cfg(test)]

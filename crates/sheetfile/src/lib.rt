@@ -1,4 +1,6 @@
 // Sheet files: a table of contents, then shape, cells and text without gaps.
+#![tactic(auto)]
+
 mod asking;
 mod cell_code;
 mod contents;
