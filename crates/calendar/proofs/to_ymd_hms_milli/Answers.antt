@@ -9,7 +9,7 @@ use Rattle.calendar.proofs.to_ymd_hms_milli.Goals.{then-not-serial-via-then-not-
 
 pub returns-then-not-serial : goal.returns-then-not-serial
 returns-then-not-serial c =
-    let is1904 = c.args.is-1904 in
+    let is1904 = c.args.is_1904 in
     let x = c.args.serial in
     let outside : accepted is1904 x ≡ false = elim c.then-not-serial.branch [
       | then-not-serial-via-then-not-serial w ↦ let test = w.if-not-serial.true in below_zero is1904 x (cc)
@@ -17,26 +17,26 @@ returns-then-not-serial c =
     ] in
     record { value = refused is1904 x outside; says = refl }
 
-pub millis-since-start-count-requires : goal.millis-since-start-count-requires
-millis-since-start-count-requires c = under c.args.serial c.abs.result c.abs.ensures.value c.if-not-serial.false c.if-serial.false
+pub millis_since_start-count-requires : goal.millis_since_start-count-requires
+millis_since_start-count-requires c = under c.args.serial c.abs.result c.abs.ensures.value c.if-not-serial.false c.if-serial.false
 
-pub returns-then-day-last-day : goal.returns-then-day-last-day
-returns-then-day-last-day c =
-    let is1904 = c.args.is-1904 in
+pub returns-then-day-last_day : goal.returns-then-day-last_day
+returns-then-day-last_day c =
+    let is1904 = c.args.is_1904 in
     let x = c.args.serial in
-    let counted = c.millis-since-start-count.ensures ∙ same_millis x c.abs.result c.abs.ensures.value in
-    let late = too_late is1904 x c.millis-since-start-count.result c.last-day.result c.if-not-serial.false c.if-serial.false counted c.last-day.ensures (omega arith) in
+    let counted = c.millis_since_start-count.ensures ∙ same_millis x c.abs.result c.abs.ensures.value in
+    let late = too_late is1904 x c.millis_since_start-count.result c.last_day.result c.if-not-serial.false c.if-serial.false counted c.last_day.ensures (omega arith) in
     record { value = refused is1904 x late; says = refl }
 
 pub returns : goal.returns
 returns c =
-    let is1904 = c.args.is-1904 in
+    let is1904 = c.args.is_1904 in
     let x = c.args.serial in
-    let count = c.millis-since-start-count.result in
-    let date = c.date-of.result in
-    let counted = c.millis-since-start-count.ensures ∙ same_millis x c.abs.result c.abs.ensures.value in
-    let early = in_time is1904 x count c.last-day.result c.if-not-serial.false c.if-serial.false counted c.last-day.ensures (omega arith) in
-    let dated = same_day is1904 date x count counted c.date-of.ensures in
+    let count = c.millis_since_start-count.result in
+    let date = c.date_of.result in
+    let counted = c.millis_since_start-count.ensures ∙ same_millis x c.abs.result c.abs.ensures.value in
+    let early = in_time is1904 x count c.last_day.result c.if-not-serial.false c.if-serial.false counted c.last_day.ensures (omega arith) in
+    let dated = same_day is1904 date x count counted c.date_of.ensures in
     let date_by = date_is is1904 date (day_of x) dated in
     let whole = recomposed count in
     let day : day_of x ≡ count / 86400000 = omega arith in

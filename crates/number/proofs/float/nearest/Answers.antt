@@ -4,4 +4,4 @@ use Rattle.number.proofs.Zero.{of_whole}
 use Rattle.number.proofs.float.nearest.Goals as goal
 
 pub returns : goal.returns
-returns c = of_whole c.args.n _ c.nearest-i64-to-f64.result (to_z-of_z w64 c.args.n c.ranges.n) c.nearest-i64-to-f64.ensures
+returns c = of_whole c.args.n _ c.nearest_i64_to_f64.result (to_z-of_z w64 c.args.n c.ranges.n) c.nearest_i64_to_f64.ensures

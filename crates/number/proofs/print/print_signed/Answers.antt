@@ -5,7 +5,7 @@ use Rattle.number.proofs.print.print_signed.Goals.{then-minus, else-minus}
 
 pub returns : goal.returns
 returns c =
-    let d = c.write-digits-start in
+    let d = c.write_digits-start in
     elim c.if-minus.branch [
       | then-minus w ↦
           with_minus d.new.bytes c.if-minus.bytes c.args.minus c.args.size d.result c.if-minus.start w.bytes-is w.start-is

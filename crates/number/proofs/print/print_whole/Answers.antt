@@ -8,5 +8,5 @@ use Rattle.number.proofs.print.print_whole.Goals as goal
 
 pub returns : goal.returns
 returns c =
-    let t : printed_text c.print-signed.result ≡ whole_text c.args.n = search rules in
+    let t : printed_text c.print_signed.result ≡ whole_text c.args.n = search rules in
     record { text = t; back = ap (whole_of_text (signed 63)) t ∙ whole_back c.args.n c.ranges.n.sfits }

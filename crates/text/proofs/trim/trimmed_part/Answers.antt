@@ -3,7 +3,7 @@ use Rattle.text.specs.Encoding.{Begins, NoCharacter}
 use Rattle.text.proofs.Whole.{utf8_more, rest_is}
 use Rattle.text.proofs.TrimWalk.{so_far_none, so_far_blank, so_far_first, so_far_more, so_far_end, so_far_stop, leaves_is, leaves_only}
 use Rattle.text.proofs.trim.trimmed_part.Goals as goal
-use Rattle.text.proofs.trim.trimmed_part.Goals.{In-Some, at·add-next, at·loop-at-less, at·loop-at-again, at·loop-at-less-then-end-eq0, at·loop-at-again-then-end-eq0, at·loop-at-less-else-end-eq0, at·loop-at-again-else-end-eq0}
+use Rattle.text.proofs.trim.trimmed_part.Goals.{In-Some}
 
 -- the character at hand
 begins : (c : In-Some) → Begins (drop c.loop-at.at c.args.bytes.now) c.in-Some.first.character c.in-Some.first.len
@@ -18,38 +18,38 @@ goes c =
 pub loop-at-init : goal.loop-at-init
 loop-at-init c = so_far_none c.args.bytes.now
 
-pub overflow-add-next : goal.overflow-add-next
-overflow-add-next c = let s = goes (at·add-next c).In-Some in search rules
+pub overflow_add-next : goal.overflow_add-next
+overflow_add-next c = let s = goes (goal.at.overflow_add-next c).In-Some in search rules
 
 pub loop-at-smaller : goal.loop-at-smaller
-loop-at-smaller c = let s = goes (at·loop-at-less c).In-Some in omega arith
+loop-at-smaller c = let s = goes (goal.at.loop-at-smaller c).In-Some in omega arith
 
 pub loop-at-smaller-then-end-eq0 : goal.loop-at-smaller-then-end-eq0
-loop-at-smaller-then-end-eq0 c = let s = goes (at·loop-at-less-then-end-eq0 c).In-Some in omega arith
+loop-at-smaller-then-end-eq0 c = let s = goes (goal.at.loop-at-smaller-then-end-eq0 c).In-Some in omega arith
 
 pub loop-at-smaller-else-end-eq0 : goal.loop-at-smaller-else-end-eq0
-loop-at-smaller-else-end-eq0 c = let s = goes (at·loop-at-less-else-end-eq0 c).In-Some in omega arith
+loop-at-smaller-else-end-eq0 c = let s = goes (goal.at.loop-at-smaller-else-end-eq0 c).In-Some in omega arith
 
 pub loop-at-preserved : goal.loop-at-preserved
 loop-at-preserved c =
-    so_far_blank c.args.bytes.now c.loop-at.at c.in-Some.first.character c.in-Some.first.len (begins (at·loop-at-again c).In-Some) c.loop-at.start c.loop-at.end c.loop-at.invariant
-    (sym c.is-blank.ensures ∙ c.if-not-is-blank.false)
+    so_far_blank c.args.bytes.now c.loop-at.at c.in-Some.first.character c.in-Some.first.len (begins (goal.at.loop-at-preserved c).In-Some) c.loop-at.start c.loop-at.end c.loop-at.invariant
+    (sym c.is_blank.ensures ∙ c.if-not-is_blank.false)
 
 pub loop-at-preserved-then-end-eq0 : goal.loop-at-preserved-then-end-eq0
 loop-at-preserved-then-end-eq0 c =
-    so_far_first c.args.bytes.now c.loop-at.at c.in-Some.first.character c.in-Some.first.len (begins (at·loop-at-again-then-end-eq0 c).In-Some) c.loop-at.start c.loop-at.end c.loop-at.invariant
-    (sym c.is-blank.ensures ∙ c.if-not-is-blank.true) c.if-end-eq0.true
+    so_far_first c.args.bytes.now c.loop-at.at c.in-Some.first.character c.in-Some.first.len (begins (goal.at.loop-at-preserved-then-end-eq0 c).In-Some) c.loop-at.start c.loop-at.end c.loop-at.invariant
+    (sym c.is_blank.ensures ∙ c.if-not-is_blank.true) c.if-end-eq0.true
 
 pub loop-at-preserved-else-end-eq0 : goal.loop-at-preserved-else-end-eq0
 loop-at-preserved-else-end-eq0 c =
-    so_far_more c.args.bytes.now c.loop-at.at c.in-Some.first.character c.in-Some.first.len (begins (at·loop-at-again-else-end-eq0 c).In-Some) c.loop-at.start c.loop-at.end c.loop-at.invariant
-    (sym c.is-blank.ensures ∙ c.if-not-is-blank.true) c.if-end-eq0.false
+    so_far_more c.args.bytes.now c.loop-at.at c.in-Some.first.character c.in-Some.first.len (begins (goal.at.loop-at-preserved-else-end-eq0 c).In-Some) c.loop-at.start c.loop-at.end c.loop-at.invariant
+    (sym c.is_blank.ensures ∙ c.if-not-is_blank.true) c.if-end-eq0.false
 
-pub returns-in-default : goal.returns-in-default
-returns-in-default c =
+pub returns-in_default : goal.returns-in_default
+returns-in_default c =
     let bs = c.args.bytes.now in
     let at = c.loop-at.at in
-    let v = so_far_stop bs at c.loop-at.start c.loop-at.end c.loop-at-test.true c.loop-at.invariant (subst NoCharacter (rest_is bs at) c.in-default.ensures) in
+    let v = so_far_stop bs at c.loop-at.start c.loop-at.end c.loop-at-test.true c.loop-at.invariant (subst NoCharacter (rest_is bs at) c.in_default.ensures) in
     let e = leaves_is bs 0 (length bs) v in
     record { start = e.0; len = e.1; inside = v.inside; part = e.2; law = v; only = leaves_only bs 0 (length bs) v }
 

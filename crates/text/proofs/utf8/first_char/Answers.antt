@@ -28,33 +28,33 @@ pub returns-in-len2-up : goal.returns-in-len2-up
 returns-in-len2-up c =
     let bs = c.args.bytes.now in
     let some : 2 ≤ length bs = omega (arith, ltb-false) in
-    subst (λ (l : List ℕ). FirstCharacter l c.two-bytes.result) (sym (cons-2 bs some)) (c.two-bytes.ensures (drop 2 bs))
+    subst (λ (l : List ℕ). FirstCharacter l c.two_bytes.result) (sym (cons-2 bs some)) (c.two_bytes.ensures (drop 2 bs))
 
 pub returns-in-len3-up : goal.returns-in-len3-up
 returns-in-len3-up c =
     let bs = c.args.bytes.now in
     let some : 3 ≤ length bs = omega (arith, ltb-false) in
-    subst (λ (l : List ℕ). FirstCharacter l c.three-bytes.result) (sym (cons-3 bs some)) (c.three-bytes.ensures (drop 3 bs))
+    subst (λ (l : List ℕ). FirstCharacter l c.three_bytes.result) (sym (cons-3 bs some)) (c.three_bytes.ensures (drop 3 bs))
 
 pub returns-in-len4-up : goal.returns-in-len4-up
 returns-in-len4-up c =
     let bs = c.args.bytes.now in
     let some : 4 ≤ length bs = omega (arith, ltb-false) in
-    subst (λ (l : List ℕ). FirstCharacter l c.four-bytes.result) (sym (cons-4 bs some)) (c.four-bytes.ensures (drop 4 bs))
+    subst (λ (l : List ℕ). FirstCharacter l c.four_bytes.result) (sym (cons-4 bs some)) (c.four_bytes.ensures (drop 4 bs))
 
 -- ---- no arm: there are no bytes, or one, two, three, four and more, and the lead byte asks for more or is none
 
-pub returns-in-default : goal.returns-in-default
-returns-in-default c = no_bytes c.args.bytes.now (omega (arith, ltb-true))
+pub returns-in_default : goal.returns-in_default
+returns-in_default c = no_bytes c.args.bytes.now (omega (arith, ltb-true))
 
-pub returns-in-default·2 : goal.returns-in-default·2
-returns-in-default·2 c = no_lead c.args.bytes.now c.if-lead-lt128.false (λ p q. omega (arith, ltb-true)) (λ p q. omega (arith, ltb-true)) (λ p q. omega (arith, ltb-true))
+pub returns-in_default-2 : goal.returns-in_default-2
+returns-in_default-2 c = no_lead c.args.bytes.now c.if-lead-lt128.false (λ p q. omega (arith, ltb-true)) (λ p q. omega (arith, ltb-true)) (λ p q. omega (arith, ltb-true))
 
-pub returns-in-default·3 : goal.returns-in-default·3
-returns-in-default·3 c = no_lead c.args.bytes.now c.if-lead-lt128.false (λ p q. c.if-lead-eq6.false p) (λ p q. omega (arith, ltb-true)) (λ p q. omega (arith, ltb-true))
+pub returns-in_default-3 : goal.returns-in_default-3
+returns-in_default-3 c = no_lead c.args.bytes.now c.if-lead-lt128.false (λ p q. c.if-lead-eq6.false p) (λ p q. omega (arith, ltb-true)) (λ p q. omega (arith, ltb-true))
 
-pub returns-in-default·4 : goal.returns-in-default·4
-returns-in-default·4 c = no_lead c.args.bytes.now c.if-lead-lt128.false (λ p q. c.if-lead-eq6.false p) (λ p q. c.if-lead-eq14.false p) (λ p q. omega (arith, ltb-true))
+pub returns-in_default-4 : goal.returns-in_default-4
+returns-in_default-4 c = no_lead c.args.bytes.now c.if-lead-lt128.false (λ p q. c.if-lead-eq6.false p) (λ p q. c.if-lead-eq14.false p) (λ p q. omega (arith, ltb-true))
 
-pub returns-in-default·5 : goal.returns-in-default·5
-returns-in-default·5 c = no_lead c.args.bytes.now c.if-lead-lt128.false (λ p q. c.if-lead-eq6.false p) (λ p q. c.if-lead-eq14.false p) (λ p q. c.if-lead-eq30.false p)
+pub returns-in_default-5 : goal.returns-in_default-5
+returns-in_default-5 c = no_lead c.args.bytes.now c.if-lead-lt128.false (λ p q. c.if-lead-eq6.false p) (λ p q. c.if-lead-eq14.false p) (λ p q. c.if-lead-eq30.false p)

@@ -2,7 +2,7 @@ use Rattle.std.proofs.Common.{ℕ, ◌+◌, ◌≤◌, List, length, take, IsUtf
 use Rattle.text.specs.Encoding.{NoCharacter, Begins}
 use Rattle.text.proofs.Whole.{utf8_more, utf8_stops, rest_is, utf8_all, is_utf8_yes, is_utf8_no}
 use Rattle.text.proofs.utf8.is_utf8.Goals as goal
-use Rattle.text.proofs.utf8.is_utf8.Goals.{In-Some, at·add-at, at·loop-at-less, at·loop-at-again}
+use Rattle.text.proofs.utf8.is_utf8.Goals.{In-Some}
 
 step : (c : In-Some) → (1 ≤ c.in-Some.first.len) × (c.loop-at.at + c.in-Some.first.len ≤ length c.args.bytes.now) × (IsUtf8 (take c.loop-at.at c.args.bytes.now) → IsUtf8 (take (c.loop-at.at + c.in-Some.first.len) c.args.bytes.now))
 step c =
@@ -12,14 +12,14 @@ step c =
     let k = c.in-Some.first.character in
     utf8_more bs i k n c.loop-at.invariant.0 (subst (λ (l : List ℕ). Begins l k n) (rest_is bs i) c.in-Some.ensures)
 
-pub overflow-add-at : goal.overflow-add-at
-overflow-add-at c = let s = step (at·add-at c).In-Some in search rules
+pub overflow_add-at : goal.overflow_add-at
+overflow_add-at c = let s = step (goal.at.overflow_add-at c).In-Some in search rules
 
 pub loop-at-smaller : goal.loop-at-smaller
-loop-at-smaller c = let s = step (at·loop-at-less c).In-Some in omega arith
+loop-at-smaller c = let s = step (goal.at.loop-at-smaller c).In-Some in omega arith
 
 pub loop-at-preserved : goal.loop-at-preserved
-loop-at-preserved c = let s = step (at·loop-at-again c).In-Some in (s.1, s.2 c.loop-at.invariant.1)
+loop-at-preserved c = let s = step (goal.at.loop-at-preserved c).In-Some in (s.1, s.2 c.loop-at.invariant.1)
 
 pub returns-in-None : goal.returns-in-None
 returns-in-None c =

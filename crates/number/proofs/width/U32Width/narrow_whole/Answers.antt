@@ -3,4 +3,4 @@ use Rattle.number.proofs.Narrowing.{masked}
 use Rattle.number.proofs.width.U32Width.narrow_whole.Goals as goal
 
 pub returns : goal.returns
-returns c = ap pos (masked 32 c.args.n c.cast-unsigned.result (lit≤ tt) c.ranges.n c.cast-unsigned.ensures)
+returns c = ap pos (masked 32 c.args.n c.cast_unsigned.result (lit≤ tt) c.ranges.n c.cast_unsigned.ensures)

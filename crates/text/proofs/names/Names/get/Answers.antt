@@ -16,6 +16,6 @@ returns c =
       | else-index-eq0 w ↦ w.start-is ∙ sym (name_start_later ends index w.if-index-eq0.false)
     ] in
     let listed = c.if-index-ends.false in
-    let r = c.bytes-between.result in
-    let bytes = name_bytes text ends index start starts r c.bytes-between.ensures.bytes in
-    record { lies = name_lies text ends index start listed starts r c.bytes-between.ensures.lies; bytes = bytes; listed = name_listed text ends index listed r bytes }
+    let r = c.bytes_between.result in
+    let bytes = name_bytes text ends index start starts r c.bytes_between.ensures.bytes in
+    record { lies = name_lies text ends index start listed starts r c.bytes_between.ensures.lies; bytes = bytes; listed = name_listed text ends index listed r bytes }

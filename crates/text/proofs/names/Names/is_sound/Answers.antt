@@ -4,25 +4,25 @@ use Rattle.text.specs.Naming.{sound_from}
 use Rattle.text.proofs.NameLaws.{sound_on, sound_leaves, sound_no_text, sound_when}
 use Rattle.text.proofs.names.Names.is_sound.Goals as goal
 
-pub returns-in-default : goal.returns-in-default
-returns-in-default c =
+pub returns-in_default : goal.returns-in_default
+returns-in_default c =
     let text = c.args.self.now.text.now in
     let ends = c.args.self.now.ends.now in
-    let e = sym (sound_leaves text ends c.loop-next.start c.loop-next.next-index c.loop-next-test.true c.in-default.ensures.lies) ∙ c.loop-next.invariant in
+    let e = sym (sound_leaves text ends c.loop-next.start c.loop-next.next-index c.loop-next-test.true c.in_default.ensures.lies) ∙ c.loop-next.invariant in
     record { is = e; law = sound_when text ends false e }
 
-pub returns-then-not-is-utf8 : goal.returns-then-not-is-utf8
-returns-then-not-is-utf8 c =
+pub returns-then-not-is_utf8 : goal.returns-then-not-is_utf8
+returns-then-not-is_utf8 c =
     let text = c.args.self.now.text.now in
     let ends = c.args.self.now.ends.now in
-    let e = sym (sound_no_text text ends c.loop-next.start c.loop-next.next-index c.loop-next-test.true c.in-Some.name.now c.in-Some.ensures.bytes c.if-not-is-utf8.ensures.law) ∙ c.loop-next.invariant in
+    let e = sym (sound_no_text text ends c.loop-next.start c.loop-next.next-index c.loop-next-test.true c.in-Some.name.now c.in-Some.ensures.bytes c.if-not-is_utf8.ensures.law) ∙ c.loop-next.invariant in
     record { is = e; law = sound_when text ends false e }
 
 pub loop-next-preserved : goal.loop-next-preserved
 loop-next-preserved c =
     let text = c.args.self.now.text.now in
     let ends = c.args.self.now.ends.now in
-    sound_on text ends c.loop-next.start c.loop-next.next-index c.loop-next-test.true c.in-Some.name.now c.in-Some.ensures.bytes c.in-Some.ensures.lies c.if-not-is-utf8.ensures.law
+    sound_on text ends c.loop-next.start c.loop-next.next-index c.loop-next-test.true c.in-Some.name.now c.in-Some.ensures.bytes c.in-Some.ensures.lies c.if-not-is_utf8.ensures.law
     ∙ c.loop-next.invariant
 
 pub returns : goal.returns
