@@ -6,9 +6,9 @@ use Rattle.datatype.proofs.excel_date_time.ExcelDateTime.new.Goals as goal
 -- the bits that are written for a value read back as the value
 pub returns : goal.returns
 returns c =
-    let held : T (fits binary64 c.args.value) = subst T (sym c.well-formed.0.1) tt in
+    let held : T (fits binary64 c.args.value) = subst T (sym c.well_formed.0.1) tt in
     record {
-      value = ap (of_bits binary64) c.f64-to-bits-with-nan.ensures ∙ of_bits-to_bits binary64 c.args.value held;
+      value = ap (of_bits binary64) c.f64_to_bits_with_nan.ensures ∙ of_bits-to_bits binary64 c.args.value held;
       type = refl;
       system = refl;
     }
