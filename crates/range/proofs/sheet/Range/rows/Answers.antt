@@ -9,5 +9,5 @@ pub returns : goal.returns
 returns g c =
     let cells = c.args.self.now.cells.now in
     let s = sheet c.args.self.now in
-    let all = ap (λ (p : ℕ × ℕ). cut_rows p.0 p.1 cells) c.get-size-left.ensures in
+    let all = ap (λ (p : ℕ × ℕ). cut_rows p.0 p.1 cells) c.get_size-left.ensures in
     record { all = all; rows = λ k. ap (λ l. slice_get l k) all ∙ row_by_number (height s) (width s) cells k }

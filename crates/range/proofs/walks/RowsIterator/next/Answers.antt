@@ -3,8 +3,8 @@ use Rattle.range.proofs.Places.{row_fits}
 use Rattle.range.proofs.Taking.{first_row_cut}
 use Rattle.range.proofs.walks.RowsIterator.next.Goals as goal
 
-pub split-at-requires : goal.split-at-requires
-split-at-requires g c =
+pub split_at-requires : goal.split_at-requires
+split_at-requires g c =
     let rows = c.args.self.now in
     omega (arith, row_fits rows.left rows.width (length rows.cells.now) (omega arith) rows.whole)
 
@@ -12,6 +12,6 @@ pub returns : goal.returns
 returns g c =
     let rows = c.args.self.now in
     record {
-      steps = first_row_cut rows.left rows.width rows.cells.now _ _ (omega arith) c.split-at.ensures.front c.split-at.ensures.back;
+      steps = first_row_cut rows.left rows.width rows.cells.now _ _ (omega arith) c.split_at.ensures.front c.split_at.ensures.back;
       goes = search rules;
     }
