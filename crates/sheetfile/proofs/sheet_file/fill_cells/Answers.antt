@@ -6,12 +6,12 @@ use Rattle.sheetfile.specs.declared.fault.FileFault.{FileFault}
 use Rattle.sheetfile.proofs.SheetLaws.{readable_asked, asked_readable}
 use Rattle.sheetfile.proofs.sheet_file.fill_cells.Goals as goal
 
-pub returns-in-err-fill : goal.returns-in-err-fill
-returns-in-err-fill c =
+pub returns-in_err-fill : goal.returns-in_err-fill
+returns-in_err-fill c =
     let file = c.args.file.now in
     let room = length c.args.store.now in
-    let p = err_from_is_err_and c.from-residual.result c.from-residual.ensures.1 in
-    let said = c.in-err-fill.ensures.answers in
+    let p = err_from_is_err_and c.from_residual.result c.from_residual.ensures.1 in
+    let said = c.in_err-fill.ensures.answers in
     record {
       answers = ap (refusal_of told) p.1 ∙ ap (λ (e : FileFault). Some (told e)) p.2 ∙ said;
       holds = c.fill.ensures.holds;
@@ -27,7 +27,7 @@ returns-in-err-fill c =
 pub returns : goal.returns
 returns c =
     record {
-      answers = c.in-ok-fill.ensures.answers;
+      answers = c.in_ok-fill.ensures.answers;
       holds = c.fill.ensures.holds;
-      accepts = (λ r. refl, λ e. asked_readable c.args.file.now (length c.args.store.now) c.in-ok-fill.ensures.answers);
+      accepts = (λ r. refl, λ e. asked_readable c.args.file.now (length c.args.store.now) c.in_ok-fill.ensures.answers);
     }

@@ -26,9 +26,9 @@ returns c =
     let stands = stands_some file c.args.store.now c.fill.new.store asked c.in-Some.layout (sym c.in-Some.is ∙ c.in-Ok.ensures.is) c.fill.ensures.holds in
     record { answers = asked; read = λ _. subst (λ (s : Sheet Data). StandsFor file s) (sym c.lend.ensures) stands; refused = tt }
 
-pub returns-in-default : goal.returns-in-default
-returns-in-default c =
+pub returns-in_default : goal.returns-in_default
+returns-in_default c =
     let file = c.args.file.now in
     let asked = c.in-Ok.ensures.answers in
-    let stands = stands_none file c.args.store.now c.fill.new.store asked (sym c.in-default.is ∙ c.in-Ok.ensures.is) in
+    let stands = stands_none file c.args.store.now c.fill.new.store asked (sym c.in_default.is ∙ c.in-Ok.ensures.is) in
     record { answers = asked; read = λ _. subst (λ (s : Sheet Data). StandsFor file s) (sym c.empty.ensures) stands; refused = tt }
