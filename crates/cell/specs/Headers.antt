@@ -1,6 +1,6 @@
 -- The header text of a cell, by what the cell means.
 use Rattle.std.specs.Prelude.{ℕ, List, Err, Result}
-use Rattle.refusal.specs.Questions.{Refusal, bare}
+use Rattle.questions.specs.Questions.{Refusal, bare}
 use Rattle.datatype.specs.Meanings.{Meaning, empty, whole, float, text, yes_no, moment, span, iso_date_time, iso_duration, error, unsound}
 use Rattle.datatype.specs.Faults.{told as coercion_told}
 use Rattle.datatype.specs.TextForms.{text_form}

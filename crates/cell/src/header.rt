@@ -1,6 +1,6 @@
 // The header text of a cell. Opening a sheet touches its cells through this alone.
 ghost use Rattle.std.specs.Prelude.{◌≡◌, IfOk};
-ghost use Rattle.refusal.specs.Questions.{answered};
+ghost use Rattle.questions.specs.Questions.{answered};
 ghost use Rattle.datatype.specs.Faults.{told as coercion_told};
 ghost use Rattle.datatype.specs.Forms.{form_bytes};
 ghost use Rattle.cell.specs.declared.header_fault.HeaderFault.TheVariants.{Refused};

@@ -1,6 +1,6 @@
 -- What the refusals of a coercion tell.
 use Rattle.std.specs.Prelude.{ℕ, [], ◌∷◌}
-use Rattle.refusal.specs.Questions.{Refusal, bare}
+use Rattle.questions.specs.Questions.{Refusal, bare}
 use Rattle.calendar.specs.Serial as calendar
 use Rattle.calendar.specs.declared.civil.DateFault.{DateFault}
 use Rattle.decimal.specs.Fault.{fault_number}

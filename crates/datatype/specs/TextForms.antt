@@ -1,6 +1,6 @@
 -- The text form of a meaning.
 use Rattle.std.specs.Prelude.{ℕ, List, [], Some, None, Ok, Err, Option, Result}
-use Rattle.refusal.specs.Questions.{Refusal, bare}
+use Rattle.questions.specs.Questions.{Refusal, bare}
 use Rattle.number.specs.Forms.{whole_text, float_text, bool_text}
 use Rattle.datatype.specs.Meanings.{Meaning, empty, whole, float, text, yes_no, moment, span, iso_date_time, iso_duration, error, unsound}
 use Rattle.datatype.specs.Faults.{error_refusal}

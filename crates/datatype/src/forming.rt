@@ -1,6 +1,6 @@
 // Values turned into their text form.
 ghost use Rattle.std.specs.Prelude.{◌≡◌, IfOk};
-ghost use Rattle.refusal.specs.Questions.{answered};
+ghost use Rattle.questions.specs.Questions.{answered};
 ghost use Rattle.datatype.specs.Values.{shown, place_of_text};
 ghost use Rattle.datatype.specs.Faults.{told};
 ghost use Rattle.datatype.specs.TextForms.{text_form};

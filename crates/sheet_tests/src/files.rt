@@ -79,7 +79,7 @@ fn sheets(rt: HostRuntime) {
     assert!(rt; read_sheet(&mut range, &GOOD, &mut store).is_ok());
     assert_eq!(rt; range.start(), Some((1, 2)));
     assert_eq!(rt; range.end(), Some((1, 3)));
-    assert!(rt; range.text() == b"ok");
+    assert!(rt; range.text() == b"ok".as_slice());
     assert!(rt; range.get((0, 0)).copied() == Some(Data::Int(-2)));
     assert!(rt; range.get((0, 1)).copied() == Some(Data::Empty));
     let empty = [

@@ -77,6 +77,6 @@ fn refused_is_kept(rt: HostRuntime) {
     assert_eq!(rt; range.start(), Some((3, 4)));
     assert_eq!(rt; range.end(), Some((3, 4)));
     assert_eq!(rt; range.get_size(), (1, 1));
-    assert!(rt; range.text() == b"kept");
+    assert!(rt; range.text() == b"kept".as_slice());
     assert_eq!(rt; range.get((0, 0)), Some(&5));
 }

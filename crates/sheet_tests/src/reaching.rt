@@ -64,7 +64,7 @@ fn by_number(rt: HostRuntime) -> Result<(), Fail> {
             wanted
         );
     }
-    assert!(rt; range.row(1).ok_or("no row")? == [20, 21, 22]);
+    assert!(rt; range.row(1).ok_or("no row")? == [20, 21, 22].as_slice());
     assert!(rt; range.row(2).is_none());
     Ok(())
 }
@@ -82,10 +82,10 @@ fn rows_from_both_ends(rt: HostRuntime) -> Result<(), Fail> {
     range.make(corners, &cells, b"")?;
     let mut rows = range.rows();
     assert_eq!(rt; rows.len(), 3);
-    assert!(rt; rows.next().ok_or("first")? == [10, 11, 12]);
-    assert!(rt; rows.next_back().ok_or("last")? == [30, 31, 32]);
+    assert!(rt; rows.next().ok_or("first")? == [10, 11, 12].as_slice());
+    assert!(rt; rows.next_back().ok_or("last")? == [30, 31, 32].as_slice());
     assert_eq!(rt; rows.len(), 1);
-    assert!(rt; rows.next().ok_or("second")? == [20, 21, 22]);
+    assert!(rt; rows.next().ok_or("second")? == [20, 21, 22].as_slice());
     assert!(rt; rows.next_back().is_none());
     assert!(rt; rows.next().is_none());
     assert_eq!(rt; rows.len(), 0);

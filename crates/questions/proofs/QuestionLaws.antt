@@ -1,6 +1,6 @@
 -- Questions in order, in one lot or in two.
 use Rattle.std.proofs.Common.{◌≡◌, Bool, true, false, cond, List, [], ◌∷◌, ◌++◌, Some, None, Option, sym, refl, ap, ◌∙◌, arith}
-use Rattle.refusal.specs.Questions.{Refusal, Question, first_no}
+use Rattle.questions.specs.Questions.{Refusal, Question, first_no}
 
 no_step : (b : Bool) (o p : Option Refusal) (y x : Refusal) → (Some x ≡ o → Some x ≡ p) → Some x ≡ cond b o (Some y) → Some x ≡ cond b p (Some y)
 no_step true o p y x later e = later e
