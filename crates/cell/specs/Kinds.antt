@@ -1,5 +1,5 @@
 -- What the two kinds of cells mean over the sheet's text.
-use Rattle.std.specs.Prelude.{ℕ, ◌+◌, Bool, cond, ◌&&◌, List, length, take, drop, ℤ, pos, negsuc, Some, None, Option, ◌==◌, from_bits, nat_le}
+use Rattle.std.specs.Prelude.{ℕ, ◌+◌, cond, ◌&&◌, List, length, take, drop, ℤ, pos, negsuc, Some, None, Option, ◌==◌, from_bits, nat_le}
 use Rattle.std.specs.Float.{binary64}
 use Rattle.text.specs.Encoding.{is_utf8}
 use Rattle.datatype.specs.Meanings.{Meaning, empty, whole, float, text, yes_no, iso_date_time, iso_duration, error, unsound}

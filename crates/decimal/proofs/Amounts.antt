@@ -1,5 +1,5 @@
 -- The value of number text within its limits, and where they end.
-use Rattle.std.proofs.Common.{◌≡◌, ℕ, ◌+◌, ◌^◌, ◌<◌, ◌≤◌, Bool, true, false, cond, eqb, ltb, leb, List, [], ◌++◌, length, ℤ, pos, ◌-ℤ◌, Some, None, sym, refl, ap, ◌∙◌, arith}
+use Rattle.std.proofs.Common.{◌≡◌, ℕ, ◌^◌, ◌<◌, ◌≤◌, Bool, true, false, cond, eqb, ltb, leb, List, ◌++◌, length, ℤ, pos, ◌-ℤ◌, Some, None, sym, refl, ap, ◌∙◌, arith}
 use lib.Ieee.{Float, binary64, of_bits, neg}
 use Rattle.std.specs.Option.{option_map}
 use Rattle.std.specs.Str.{all_ascii_digits}

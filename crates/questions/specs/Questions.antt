@@ -1,5 +1,5 @@
 -- Questions put in order: the first no gives the refusal.
-use Rattle.std.specs.Prelude.{ℕ, Bool, true, false, cond, List, [], ◌∷◌, Some, None, Ok, Err, Option, Result}
+use Rattle.std.specs.Prelude.{ℕ, Bool, cond, List, [], ◌∷◌, Some, None, Ok, Err, Option, Result}
 
 -- what a refusal tells: its number, and the values that it carries
 pub record Refusal : Type 0 where

@@ -1,5 +1,5 @@
 -- What the shape of a sheet gives.
-use Rattle.std.proofs.Common.{◌≡◌, ℕ, ◌+◌, ◌*◌, ◌/◌, ◌<◌, ◌≤◌, Bool, true, false, ◌&&◌, eqb, leb, Some, None, Option, sym, refl, ap, ◌∙◌, subst, mul-le-mul_left, arith, rules}
+use Rattle.std.proofs.Common.{◌≡◌, ℕ, ◌+◌, ◌*◌, ◌/◌, ◌<◌, ◌≤◌, true, ◌&&◌, leb, Some, None, Option, sym, ap, ◌∙◌, subst, mul-le-mul_left, arith}
 use Rattle.std.proofs.lemmas.Bool.{eqb-true, leb-true, le-leb, and_parts, and_from}
 use Rattle.std.proofs.lemmas.Nat.{div_below}
 use Rattle.range.specs.declared.corners.Corners.{Corners}

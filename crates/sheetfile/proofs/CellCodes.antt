@@ -1,5 +1,5 @@
 -- The nine bytes of a cell, read where they lie.
-use Rattle.std.proofs.Common.{◌≡◌, ℕ, ◌+◌, ◌≤◌, List, length, get_or, take, drop, sym, refl, ap, ◌∙◌, arith}
+use Rattle.std.proofs.Common.{◌≡◌, ℕ, ◌+◌, ◌≤◌, List, length, get_or, drop, sym, refl, ap, ◌∙◌, arith}
 use Rattle.datatype.specs.declared.data.TextPart.{TextPart}
 use Rattle.sheetfile.specs.Bytes.{valued, part}
 use Rattle.sheetfile.specs.CellCode.{cell_of, decoded}

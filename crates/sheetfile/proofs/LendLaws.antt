@@ -1,16 +1,15 @@
 -- The sheet that is lent the filled store is the one that the file stands for.
-use Rattle.std.proofs.Common.{◌≡◌, ℕ, ◌+◌, ◌*◌, ◌<◌, ◌≤◌, Bool, true, false, cond, List, [], length, take, drop, is_some, Some, None, Option, sym, refl, ap, ◌∙◌, subst, arith, length-drop}
+use Rattle.std.proofs.Common.{◌≡◌, ℕ, ◌+◌, ◌≤◌, cond, List, length, take, drop, Some, None, sym, ap, ◌∙◌, subst, arith, length-drop}
 use Rattle.std.proofs.lemmas.List.{take_all}
 use Rattle.std.specs.List.{slice_get}
 use Rattle.range.specs.Questions.{first_no}
 use Rattle.range.specs.Shapes.{Lawful}
-use Rattle.range.specs.Sheets.{Sheet, made_of, empty_sheet}
-use Rattle.range.specs.declared.corners.Corners.{Corners}
+use Rattle.range.specs.Sheets.{made_of, empty_sheet}
 use Rattle.range.proofs.QuestionLaws.{both_lots}
 use Rattle.datatype.specs.declared.data.Data.{Data}
 use Rattle.sheetfile.specs.Bytes.{part}
-use Rattle.sheetfile.specs.Contents.{contents_of, no_parts, behind, Laid}
-use Rattle.sheetfile.specs.Files.{file_corners, count_of_cells, layout_questions, file_layout, cell_questions, cells_from, placed}
+use Rattle.sheetfile.specs.Contents.{contents_of, no_parts}
+use Rattle.sheetfile.specs.Files.{file_corners, count_of_cells, layout_questions, file_layout, cell_questions, cells_from}
 use Rattle.sheetfile.specs.Reading.{cell_of_file, sheet_count, file_questions, stored, Readable, StandsFor}
 use Rattle.sheetfile.specs.declared.contents.Layout.{Layout}
 use Rattle.sheetfile.proofs.LayoutLaws.{no_parts_facts}

@@ -1,19 +1,18 @@
 -- A file that is read: all its cells are good, they stand in the front of the store, and it is readable.
-use Rattle.std.proofs.Common.{◌≡◌, ℕ, zero, suc, ◌+◌, ◌*◌, ◌<◌, ◌≤◌, Bool, true, false, cond, ◌&&◌, eqb, leb, List, [], ◌∷◌, ◌++◌, length, take, drop, set, is_some, Some, None, Option, sym, refl, ap, ◌∙◌, subst, ⊎_elim, append_assoc, append-nil, arith, length-set}
+use Rattle.std.proofs.Common.{◌≡◌, ℕ, zero, suc, ◌+◌, ◌*◌, ◌<◌, ◌≤◌, Bool, true, false, cond, eqb, leb, List, [], ◌∷◌, ◌++◌, length, take, drop, set, is_some, Some, None, Option, sym, refl, ap, ◌∙◌, subst, ⊎_elim, append_assoc, arith, length-set}
 use Rattle.std.proofs.lemmas.List.{take-append-drop, take_at, take_more_set, drop-set-lt}
-use Rattle.std.proofs.lemmas.Bool.{and_parts, and_from, eqb-true, eq-eqb, leb-true, le-leb, both_ways, cases_Bool}
+use Rattle.std.proofs.lemmas.Bool.{eq-eqb, le-leb, both_ways, cases_Bool}
 use Rattle.std.specs.List.{slice_get}
-use Rattle.range.specs.Questions.{Refusal, Question, first_no, bare}
-use Rattle.range.specs.Shapes.{Lawful, ordered, limited, rows_of, columns_of}
-use Rattle.range.specs.declared.corners.Corners.{Corners}
+use Rattle.range.specs.Questions.{first_no, bare}
+use Rattle.range.specs.Shapes.{ordered, limited}
 use Rattle.range.proofs.QuestionLaws.{first_yes, no_in_second, both_lots}
 use Rattle.range.proofs.ShapeLaws.{lawful_tests, tests_lawful}
 use Rattle.datatype.specs.declared.data.Data.{Data}
-use Rattle.sheetfile.specs.Contents.{contents_of, no_parts, lawful, Laid}
+use Rattle.sheetfile.specs.Contents.{contents_of, no_parts, lawful}
 use Rattle.sheetfile.specs.Files.{bad_cell, met, file_corners, count_of_cells, shape_questions, layout_questions, cell_questions, cells_from, placed}
 use Rattle.sheetfile.specs.Reading.{cell_of_file, sheet_count, file_questions, Readable}
 use Rattle.sheetfile.proofs.LayoutLaws.{laid_lawful, lawful_laid, passed_alone, passed_on, no_parts_facts}
-use Rattle.sheetfile.proofs.FillLaws.{laid_out, Laid_out}
+use Rattle.sheetfile.proofs.FillLaws.{laid_out}
 
 -- ---- cells that are all good
 module _ (cell : ℕ → Option Data) where

@@ -1,5 +1,5 @@
 -- A cell in nine bytes: its kind, and what the other eight stand for under that kind.
-use Rattle.std.specs.Prelude.{ℕ, Bool, true, false, cond, List, [], ◌∷◌, map, get_or, take, drop, ℤ, Some, None, Option, ◌==◌, from_bits, slice_index_or}
+use Rattle.std.specs.Prelude.{ℕ, Bool, true, false, cond, List, [], ◌∷◌, map, get_or, take, drop, Some, None, Option, ◌==◌, from_bits, slice_index_or}
 use Rattle.std.specs.Int.{w64}
 use Rattle.std.proofs.Common.{to_z}
 use Rattle.std.specs.Float.{float_is_finite, binary64}

@@ -1,5 +1,5 @@
 -- The table of contents: where shape, cells and text lie in the file.
-use Rattle.std.specs.Prelude.{◌≡◌, ℕ, ◌+◌, ◌≤◌, Bool, true, ◌&&◌, ◌||◌, ◌⊎◌, List, length, ◌==◌, nat_le}
+use Rattle.std.specs.Prelude.{◌≡◌, ℕ, ◌+◌, Bool, ◌&&◌, ◌||◌, ◌⊎◌, List, length, ◌==◌, nat_le}
 use Rattle.sheetfile.specs.Bytes.{valued, part}
 use Rattle.sheetfile.specs.declared.contents.Extent.{Extent}
 use Rattle.sheetfile.specs.declared.contents.Contents.{Contents}

@@ -1,5 +1,5 @@
 -- The bytes of one character: what masks and shifts read from them, which character they begin with, and when no character begins them.
-use Rattle.std.proofs.Common.{◌≡◌, ℕ, ◌+◌, ◌-◌, ◌*◌, ◌/◌, ◌%◌, ◌^◌, ◌<◌, ◌≤◌, true, ◌⊎◌, List, [], ◌∷◌, ◌++◌, length, get_or, sym, ap, ◌∙◌, subst, inl, inr, arith}
+use Rattle.std.proofs.Common.{◌≡◌, ℕ, ◌+◌, ◌*◌, ◌/◌, ◌%◌, ◌^◌, ◌<◌, ◌≤◌, true, ◌⊎◌, List, [], ◌∷◌, ◌++◌, length, get_or, sym, ap, ◌∙◌, subst, inl, inr, arith}
 use lib.Bits.{bit_and, bit_or, and_mask}
 use lib.Utf8.{scalar, encode, scalar_cases, low_scalar}
 use Rattle.std.proofs.lemmas.Nat.{or_shifted, and_shr, and_mod, and_le_r, shr_split}

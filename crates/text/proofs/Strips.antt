@@ -1,7 +1,7 @@
 -- Characters without the blank ones at both ends.
 use Rattle.std.proofs.Common.{◌≡◌, ℕ, true, false, List, [], ◌∷◌, ◌++◌, reverse, sym, refl, ap, ◌∙◌, subst, inl, inr, append-nil}
 use mathlib.Core.List.{reverse-cons, reverse-append, reverse-reverse}
-use Rattle.std.specs.List.{AllByRecursion as All}
+use Rattle.std.specs.List.{AllByRecursion}
 use Rattle.std.proofs.ByRecursion.{All-push}
 use Rattle.std.proofs.lemmas.Bool.{cases_Bool, cond-true, cond-false}
 use Rattle.text.specs.WhiteSpace.{blank}
@@ -9,7 +9,7 @@ use Rattle.text.specs.Trimming.{past_blanks, stripped}
 
 -- every character is blank
 abbrev pub AllBlank : List ℕ → Type 0
-AllBlank cs = All (λ c. blank c ≡ true) cs
+AllBlank cs = AllByRecursion (λ c. blank c ≡ true) cs
 
 -- the first character, if there is one, is not blank
 abbrev pub NoBlankFirst : List ℕ → Type 0

@@ -1,5 +1,5 @@
 -- Names that lie one after another in one text: a list of ends, each name from the end before it (the first from 0) to its own.
-use Rattle.std.specs.Prelude.{ℕ, ◌-◌, ◌<◌, ◌≤◌, Bool, true, ◌&&◌, List, [], ◌∷◌, length, IsUtf8, nat_le, slice_index, slice_range}
+use Rattle.std.specs.Prelude.{ℕ, ◌<◌, ◌≤◌, Bool, true, ◌&&◌, List, [], ◌∷◌, length, IsUtf8, nat_le, slice_index, slice_range}
 use Rattle.text.specs.Encoding.{is_utf8}
 
 -- ---- one name

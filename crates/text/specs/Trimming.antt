@@ -1,7 +1,7 @@
 -- Trimming: blank characters go from both ends of bytes that are UTF-8; bytes that are not stay as they are.
 use Rattle.std.specs.Prelude.{◌≡◌, ℕ, ◌+◌, ◌-◌, ◌≤◌, true, cond, List, [], ◌∷◌, ◌++◌, reverse, length, take, drop, IsUtf8, ◌≢◌}
 use Rattle.std.proofs.Math.Utf8.{scalar, scalars, encode, encodes}
-use Rattle.std.specs.List.{AllByRecursion as All}
+use Rattle.std.specs.List.{AllByRecursion}
 use Rattle.std.specs.Str.{chars}
 use Rattle.text.specs.Encoding.{is_utf8}
 use Rattle.text.specs.WhiteSpace.{blank}
@@ -34,7 +34,7 @@ trimmed_start bs = cond (is_utf8 bs) (in_front (length bs) (past_blanks (chars b
 
 -- bs is blank characters, or nothing
 abbrev pub Blanks : List ℕ → Type 0
-Blanks bs = (cs : List ℕ) × (scalars cs ≡ true) × (encodes cs ≡ bs) × All (λ c. blank c ≡ true) cs
+Blanks bs = (cs : List ℕ) × (scalars cs ≡ true) × (encodes cs ≡ bs) × AllByRecursion (λ c. blank c ≡ true) cs
 
 -- bs neither begins nor ends with a blank character
 abbrev pub Bare : List ℕ → Type 0

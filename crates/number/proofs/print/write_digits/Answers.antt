@@ -1,4 +1,4 @@
-use Rattle.std.proofs.Common.{ℕ, ◌-◌, ◌≤◌, List, ◌++◌, drop, decimal, sym, ap, ◌∙◌, append-nil, arith, length-set}
+use Rattle.std.proofs.Common.{ℕ, ◌≤◌, List, ◌++◌, drop, decimal, sym, ap, ◌∙◌, append-nil, arith, length-set}
 use lib.Seq.{drop-length}
 use Rattle.number.proofs.Putting.{room, more, last}
 use Rattle.number.proofs.print.write_digits.Goals as goal

@@ -1,4 +1,4 @@
-use Rattle.std.proofs.Common.{◌≡◌, ◌≤◌, length, sym, ◌∙◌, subst, arith}
+use Rattle.std.proofs.Common.{◌≤◌, length, sym, ◌∙◌, subst, arith}
 use Rattle.range.specs.Sheets.{Sheet}
 use Rattle.datatype.specs.declared.data.Data.{Data}
 use Rattle.sheetfile.specs.Reading.{StandsFor}

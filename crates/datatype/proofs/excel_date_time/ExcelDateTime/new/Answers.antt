@@ -1,4 +1,4 @@
-use Rattle.std.proofs.Common.{◌≡◌, T, sym, refl, ap, ◌∙◌, subst}
+use Rattle.std.proofs.Common.{T, sym, refl, ap, ◌∙◌, subst}
 use lib.Ieee.{binary64, fits, of_bits}
 use lib.Ieee.Bits.{of_bits-to_bits}
 use Rattle.datatype.proofs.excel_date_time.ExcelDateTime.new.Goals as goal

@@ -1,5 +1,4 @@
-use Rattle.std.proofs.Common.{◌≡◌, ℕ, ◌*◌, length, sym, ap, ◌∙◌, arith}
-use Rattle.range.specs.Sheets.{sheet, height, width}
+use Rattle.std.proofs.Common.{length, arith}
 use Rattle.range.proofs.Places.{row_inside}
 use Rattle.range.proofs.ShapeLaws.{grid_count, sized_so}
 use Rattle.range.proofs.sheet.Range.row.Goals as goal

@@ -1,4 +1,4 @@
-use Rattle.std.proofs.Common.{◌≡◌, ℕ, ap, ◌∙◌}
+use Rattle.std.proofs.Common.{ℕ, ap, ◌∙◌}
 use Rattle.std.specs.List.{slice_get}
 use Rattle.range.specs.Sheets.{sheet, height, width}
 use Rattle.range.specs.Walks.{cut_rows}

@@ -1,5 +1,5 @@
-use Rattle.std.proofs.Common.{◌≡◌, length, sym, refl, arith, rules}
-use Rattle.std.proofs.lemmas.Bool.{eqb-true, eqb-false}
+use Rattle.std.proofs.Common.{sym, refl, rules}
+use Rattle.std.proofs.lemmas.Bool.{eqb-true}
 use Rattle.range.proofs.Taking.{none_left, first_cell}
 use Rattle.range.proofs.walks.CellsIterator.next.Goals as goal
 
