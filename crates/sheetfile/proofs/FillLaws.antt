@@ -44,14 +44,14 @@ some_layout true l m e = absurd (grind arith)
 some_layout false l m e = (refl, grind arith)
 
 -- what a yes to every question before the cells says of a sheet that is not empty
-pub record Laid_out (file : List ℕ) (room : ℕ) : Type 0 where
+pub record LaidOut (file : List ℕ) (room : ℕ) : Type 0 where
   pub laid : Laid (contents_of file) (length file)
   pub forwards : ordered (file_corners file) ≡ true
   pub within : limited (file_corners file) ≡ true
   pub bytes : (contents_of file).cells.len ≡ 9 * count_of_cells file
   pub fits : count_of_cells file ≤ room
 
-pub laid_out : (file : List ℕ) (room : ℕ) → None ≡ first_no (layout_questions file room) → no_parts (contents_of file) ≡ false → Laid_out file room
+pub laid_out : (file : List ℕ) (room : ℕ) → None ≡ first_no (layout_questions file room) → no_parts (contents_of file) ≡ false → LaidOut file room
 laid_out file room e some =
     let k = file_corners file in
     let bytes = (contents_of file).cells.len in
@@ -73,7 +73,7 @@ laid_out file room e some =
     }
 
 -- all cells lie in the file
-pub cells_inside : (file : List ℕ) (room : ℕ) → Laid_out file room → (contents_of file).cells.place + 9 * count_of_cells file ≤ length file
+pub cells_inside : (file : List ℕ) (room : ℕ) → LaidOut file room → (contents_of file).cells.place + 9 * count_of_cells file ≤ length file
 cells_inside file room l = omega (arith, l.bytes, l.laid.third, l.laid.ends)
 
 -- the same by a layout that was found
