@@ -6,9 +6,9 @@ mod command;
 mod refusal;
 mod show;
 
-use anyhow::anyhow;
 use command::{Outcome, run_words};
 use std::env;
+use std::process::ExitCode;
 
 fn run(rt: &HostRuntime) -> anyhow::Result<Outcome> {
     let heap = rt.alloc();
@@ -19,9 +19,9 @@ fn run(rt: &HostRuntime) -> anyhow::Result<Outcome> {
     run_words(rt, words.as_slice())
 }
 
-fn main(rt: HostRuntime) -> anyhow::Result<()> {
+fn main(rt: HostRuntime) -> anyhow::Result<ExitCode> {
     match run(&rt)? {
-        Outcome::Done => Ok(()),
-        Outcome::Refused => Err(anyhow!("refused")),
+        Outcome::Done => Ok(ExitCode::SUCCESS),
+        Outcome::Refused => Ok(ExitCode::FAILURE),
     }
 }

@@ -1,5 +1,5 @@
 -- UTF-8 by RFC 3629. `encode c` is the one to four bytes of the scalar value c (a code point below U+110000 that is no surrogate),
--- `encodes cs` those of a list, and `Utf8 bs` says that some list of scalar values encodes to bs.
+-- `encodes cs` those of a list, and `IsUtf8 bs` says that some list of scalar values encodes to bs.
 use Rattle.std.specs.Prelude.{◌≡◌, ℕ, Bool, true, ◌&&◌, List, ◌++◌, length, drop, Some, None, Option, ◌≢◌}
 use Rattle.std.proofs.Math.Utf8.{scalar, scalars, encode, encodes}
 use Rattle.std.specs.Str.{chars, bytes_eq}
@@ -18,6 +18,6 @@ abbrev pub FirstCharacter : List ℕ → Option Decoded → Type 0
 FirstCharacter bs None = NoCharacter bs
 FirstCharacter bs (Some d) = Begins bs d.character d.len
 
--- `Utf8` as a test: read as characters, bs gives scalar values that encode to bs again
+-- `IsUtf8` as a test: read as characters, bs gives scalar values that encode to bs again
 unfoldable pub is_utf8 : List ℕ → Bool
 is_utf8 bs = scalars (chars bs) && bytes_eq (encodes (chars bs)) bs
