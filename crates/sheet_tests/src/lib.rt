@@ -6,6 +6,8 @@ mod cells;
 #[cfg(test)]
 mod files;
 #[cfg(test)]
+mod kinds;
+#[cfg(test)]
 mod making;
 #[cfg(test)]
 mod parts;
