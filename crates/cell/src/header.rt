@@ -1,4 +1,4 @@
-// The header text of a cell. Opening a sheet touches its cells through this alone.
+// The header text of a cell: what opening a sheet is to ask of its cells, and nothing else.
 ghost use Rattle.std.specs.Prelude.{◌≡◌, IfOk};
 ghost use Rattle.questions.specs.Questions.{answered};
 ghost use Rattle.datatype.specs.Faults.{told as coercion_told};

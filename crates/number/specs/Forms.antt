@@ -1,4 +1,4 @@
--- The text form of a number: what printing it writes.
+-- The text form of a number, or of a yes/no in words: what printing it writes.
 use Rattle.std.specs.Prelude.{ℕ, suc, ◌*◌, ◌/◌, ◌%◌, ◌^◌, Bool, true, false, cond, ◌&&◌, List, ◌∷◌, ℤ, pos, negsuc, Some, None, codes, decimal, Option, ◌==◌, nat_lt, Float}
 use Rattle.std.specs.Float.{nan, inf, fin}
 use Rattle.std.specs.Float.Ieee.{up, down}

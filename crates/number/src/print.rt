@@ -1,4 +1,4 @@
-// Numbers printed in decimal.
+// Numbers printed in decimal, and a yes/no printed in words.
 ghost use Rattle.std.specs.Prelude.{◌≡◌, ◌^◌, ◌≤◌, [], drop, Some, decimal};
 ghost use Rattle.std.specs.Option.{option_map};
 ghost use Rattle.number.specs.Forms.{signed_text, whole_text, whole_size, float_text, bool_text};
