@@ -13,12 +13,12 @@ use datatype::coercion_fault::CoercionFault;
 use datatype::forming::text_form;
 use datatype::text_form::TextForm;
 use datatype::value::Value;
+use questions::fault::Fault;
 
-impl HeaderFault {
-    /// The number of the refusal.
-    pub fn number(&self) -> u8
-        ensures { result ≡ (told self.now).number }
-    {
+impl Fault for HeaderFault {
+    ghost told = { told };
+
+    fn number(&self) -> u8 {
         match *self {
             HeaderFault::Unsound => 4,
             HeaderFault::Refused(fault) => fault.number(),

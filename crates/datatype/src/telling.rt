@@ -5,12 +5,12 @@ ghost use Rattle.datatype.specs.Faults.{told, date_told, number_told};
 use crate::coercion_fault::CoercionFault;
 use calendar::civil::DateFault;
 use decimal::fault::NumberFault;
+use questions::fault::Fault;
 
-impl CoercionFault {
-    /// The number of the refusal.
-    pub fn number(&self) -> u8
-        ensures { result ≡ (told self.now).number }
-    {
+impl Fault for CoercionFault {
+    ghost told = { told };
+
+    fn number(&self) -> u8 {
         match *self {
             CoercionFault::CellError(_) => 7,
             CoercionFault::NoTextForm => 8,

@@ -1,4 +1,3 @@
-pub mod QuestionLaws
 pub mod Places
 pub mod ShapeLaws
 pub mod Taking

@@ -1,4 +1,3 @@
-pub mod Questions
 pub mod Shapes
 pub mod Making
 pub mod Sheets

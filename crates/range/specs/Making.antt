@@ -1,6 +1,6 @@
 -- Making a sheet: the three questions, and what each refusal tells.
 use Rattle.std.specs.Prelude.{ℕ, ◌*◌, List, [], ◌∷◌, Option, nat_le}
-use Rattle.range.specs.Questions.{Refusal, Question, bare, first_no}
+use Rattle.questions.specs.Questions.{Refusal, Question, bare, first_no}
 use Rattle.range.specs.Shapes.{ordered, limited, counted, rows_of, columns_of}
 use Rattle.range.specs.declared.corners.Corners.{Corners}
 use Rattle.range.specs.declared.fault.RangeFault.{RangeFault}

@@ -1,6 +1,6 @@
 // Making a sheet from its parts.
 ghost use Rattle.std.specs.Prelude.{◌≡◌, ◌*◌, ◌^◌, ◌≤◌, true, false, [], length, is_ok, IfOk, Ok};
-ghost use Rattle.range.specs.Questions.{refusal_of, first_no};
+ghost use Rattle.questions.specs.Questions.{refusal_of, first_no};
 ghost use Rattle.range.specs.Shapes.{span, Lawful, rows_of, columns_of};
 ghost use Rattle.range.specs.Making.{told, making, corner_questions};
 ghost use Rattle.range.specs.Sheets.{sheet, made_of, empty_sheet};
@@ -8,12 +8,12 @@ ghost use Rattle.range.specs.Sheets.{sheet, made_of, empty_sheet};
 use crate::corners::Corners;
 use crate::fault::RangeFault;
 use crate::sheet::Range;
+use questions::fault::Fault;
 
-impl RangeFault {
-    /// The number of the refusal.
-    pub fn number(&self) -> u8
-        ensures { result ≡ (told self.now).number }
-    {
+impl Fault for RangeFault {
+    ghost told = { told };
+
+    fn number(&self) -> u8 {
         match *self {
             RangeFault::Reversed => 1,
             RangeFault::PastLimits => 2,

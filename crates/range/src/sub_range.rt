@@ -1,6 +1,6 @@
 // A part of a sheet, or a larger sheet around it, copied into the caller's store.
 ghost use Rattle.std.specs.Prelude.{◌≡◌, ◌*◌, ◌<◌, ◌≤◌, true, false, ◌++◌, length, drop, is_ok, IfOk};
-ghost use Rattle.range.specs.Questions.{refusal_of};
+ghost use Rattle.questions.specs.Questions.{refusal_of};
 ghost use Rattle.range.specs.Shapes.{ordered, limited, rows_of, columns_of};
 ghost use Rattle.range.specs.Making.{told, copying};
 ghost use Rattle.range.specs.Sheets.{sheet, part_cell, part_cells};

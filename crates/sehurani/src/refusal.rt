@@ -1,4 +1,5 @@
 // A refusal as the program prints it: number, words and place.
+use questions::fault::Fault;
 use range::fault::RangeFault;
 use sheetfile::fault::FileFault;
 use std::fmt;

@@ -1,5 +1,6 @@
 // Sheet files at the edges of every question.
 use datatype::data::Data;
+use questions::fault::Fault;
 use range::sheet::Range;
 use sheetfile::sheet_file::{fill_cells, read_sheet};
 use std::test::Fail;

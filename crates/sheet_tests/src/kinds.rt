@@ -8,6 +8,7 @@ use datatype::coercion_fault::CoercionFault;
 use datatype::data::{Data, TextPart};
 use datatype::excel_date_time::{ExcelDateTime, ExcelDateTimeType};
 use decimal::fault::NumberFault;
+use questions::fault::Fault;
 use range::corners::Corners;
 use range::sheet::Range;
 use std::num::f64_to_bits_with_nan;

@@ -1,4 +1,5 @@
 // The three questions of making, one short, exact and one over.
+use questions::fault::Fault;
 use range::corners::Corners;
 use range::fault::RangeFault;
 use range::sheet::Range;

@@ -1,4 +1,5 @@
 // Parts copied into a store.
+use questions::fault::Fault;
 use range::corners::Corners;
 use range::fault::RangeFault;
 use range::sheet::Range;

@@ -1,9 +1,9 @@
 -- The questions before the cells and those of the cells, joined, and what the store holds after them.
 use Rattle.std.proofs.Common.{◌≡◌, ℕ, ◌+◌, ◌*◌, ◌≤◌, Bool, true, false, cond, eqb, leb, List, [], ◌∷◌, length, is_some, Some, None, Option, sym, refl, ap, ◌∙◌, subst, arith}
 use Rattle.std.proofs.lemmas.Bool.{eqb-true, leb-true}
-use Rattle.range.specs.Questions.{Refusal, Question, first_no, bare}
+use Rattle.questions.specs.Questions.{Refusal, Question, first_no, bare}
 use Rattle.range.specs.Shapes.{ordered, limited}
-use Rattle.range.proofs.QuestionLaws.{no_in_first, no_in_second, first_yes}
+use Rattle.questions.proofs.QuestionLaws.{no_in_first, no_in_second, first_yes}
 use Rattle.datatype.specs.declared.data.Data.{Data}
 use Rattle.sheetfile.specs.Contents.{contents_of, no_parts, lawful, Laid}
 use Rattle.sheetfile.specs.Files.{file_corners, count_of_cells, shape_questions, layout_questions, file_layout, file_cell, cell_questions, cells_from, cell_place, placed}

@@ -1,6 +1,6 @@
 -- The answers of the questions before the cells, case by case.
 use Rattle.std.proofs.Common.{◌≡◌, ℕ, ◌*◌, true, false, cond, List, Some, None, Option, sym, ap, ◌∙◌}
-use Rattle.range.specs.Questions.{Refusal, first_no, bare}
+use Rattle.questions.specs.Questions.{Refusal, first_no, bare}
 use Rattle.range.specs.Shapes.{rows_of, columns_of}
 use Rattle.range.specs.declared.corners.Corners.{Corners}
 use Rattle.sheetfile.specs.Contents.{contents_of, no_parts, lawful}

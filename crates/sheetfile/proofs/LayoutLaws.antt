@@ -1,7 +1,7 @@
 -- What a lawful table of contents gives, and the questions before the cells.
 use Rattle.std.proofs.Common.{◌≡◌, ℕ, ◌+◌, ◌≤◌, Bool, true, false, cond, ◌&&◌, ◌||◌, eqb, leb, List, [], ◌∷◌, length, Some, None, refl, inl, inr, ⊎_elim, arith}
 use Rattle.std.proofs.lemmas.Bool.{and_parts, and_from, or_cases, or_left, or_right, eqb-true, eq-eqb, le-leb, both_ways}
-use Rattle.range.specs.Questions.{Refusal, Question, first_no}
+use Rattle.questions.specs.Questions.{Refusal, Question, first_no}
 use Rattle.sheetfile.specs.Contents.{contents_of, behind, gapless, no_parts, lawful, Laid}
 use Rattle.sheetfile.specs.declared.contents.Contents.{Contents}
 

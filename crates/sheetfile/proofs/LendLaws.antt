@@ -2,10 +2,10 @@
 use Rattle.std.proofs.Common.{◌≡◌, ℕ, ◌+◌, ◌≤◌, cond, List, length, take, drop, Some, None, sym, ap, ◌∙◌, subst, arith, length-drop}
 use Rattle.std.proofs.lemmas.List.{take_all}
 use Rattle.std.specs.List.{slice_get}
-use Rattle.range.specs.Questions.{first_no}
+use Rattle.questions.specs.Questions.{first_no}
 use Rattle.range.specs.Shapes.{Lawful}
 use Rattle.range.specs.Sheets.{made_of, empty_sheet}
-use Rattle.range.proofs.QuestionLaws.{both_lots}
+use Rattle.questions.proofs.QuestionLaws.{both_lots}
 use Rattle.datatype.specs.declared.data.Data.{Data}
 use Rattle.sheetfile.specs.Bytes.{part}
 use Rattle.sheetfile.specs.Contents.{contents_of, no_parts}

@@ -1,6 +1,6 @@
 -- Cells read one after another, up to the first that is none.
 use Rattle.std.proofs.Common.{◌≡◌, ℕ, suc, ◌+◌, ◌-◌, ◌<◌, ◌≤◌, cond, List, [], ◌∷◌, set, is_some, Some, None, Option, sym, ap, ◌∙◌, arith}
-use Rattle.range.specs.Questions.{first_no}
+use Rattle.questions.specs.Questions.{first_no}
 use Rattle.datatype.specs.declared.data.Data.{Data}
 use Rattle.sheetfile.specs.Files.{bad_cell, met, cell_questions, cells_from, placed}
 

@@ -3,9 +3,9 @@ use Rattle.std.proofs.Common.{◌≡◌, ℕ, zero, suc, ◌+◌, ◌*◌, ◌<�
 use Rattle.std.proofs.lemmas.List.{take-append-drop, take_at, take_more_set, drop-set-lt}
 use Rattle.std.proofs.lemmas.Bool.{eq-eqb, le-leb, both_ways, cases_Bool}
 use Rattle.std.specs.List.{slice_get}
-use Rattle.range.specs.Questions.{first_no, bare}
+use Rattle.questions.specs.Questions.{first_no, bare}
 use Rattle.range.specs.Shapes.{ordered, limited}
-use Rattle.range.proofs.QuestionLaws.{first_yes, no_in_second, both_lots}
+use Rattle.questions.proofs.QuestionLaws.{first_yes, no_in_second, both_lots}
 use Rattle.range.proofs.ShapeLaws.{lawful_tests, tests_lawful}
 use Rattle.datatype.specs.declared.data.Data.{Data}
 use Rattle.sheetfile.specs.Contents.{contents_of, no_parts, lawful}

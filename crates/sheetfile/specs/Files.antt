@@ -1,6 +1,6 @@
 -- A sheet file: its questions in order, its sheet, and what a reading leaves in the store.
 use Rattle.std.specs.Prelude.{ℕ, zero, suc, ◌+◌, ◌*◌, cond, List, [], ◌∷◌, is_some, Some, None, Option, ◌==◌, nat_le, slice_set}
-use Rattle.range.specs.Questions.{Refusal, Question, bare}
+use Rattle.questions.specs.Questions.{Refusal, Question, bare}
 use Rattle.range.specs.Shapes.{rows_of, columns_of}
 use Rattle.range.specs.Making as making
 use Rattle.range.specs.Making.{corner_questions}

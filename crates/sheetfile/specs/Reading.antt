@@ -1,7 +1,7 @@
 -- Reading a file: every question in order, what the store then holds, and the sheet that a file stands for.
 use Rattle.std.specs.Prelude.{◌≡◌, ℕ, ◌*◌, ◌<◌, ◌≤◌, true, false, cond, List, ◌++◌, length, is_some, Some, None, Option}
 use Rattle.std.specs.List.{slice_get}
-use Rattle.range.specs.Questions.{Question, first_no}
+use Rattle.questions.specs.Questions.{Question, first_no}
 use Rattle.range.specs.Shapes.{Lawful}
 use Rattle.range.specs.Sheets.{Sheet}
 use Rattle.range.specs.declared.corners.Corners.{Corners}

@@ -1,6 +1,6 @@
 // The questions put to a file before its cells.
 ghost use Rattle.std.specs.Prelude.{◌≡◌, ◌+◌, ◌*◌, ◌≤◌, length, IfOk, if◌then◌else◌, Some, None};
-ghost use Rattle.range.specs.Questions.{refusal_of, first_no};
+ghost use Rattle.questions.specs.Questions.{refusal_of, first_no};
 ghost use Rattle.range.specs.Shapes.{rows_of, columns_of};
 ghost use Rattle.range.specs.Making as making;
 ghost use Rattle.sheetfile.specs.Contents.{extent_at, contents_of, behind, gapless, no_parts, lawful};

@@ -1,6 +1,6 @@
 // Reading the cells of a file into a store.
 ghost use Rattle.std.specs.Prelude.{◌≡◌, ◌+◌, ◌*◌, ◌≤◌, length, IfOk};
-ghost use Rattle.range.specs.Questions.{refusal_of, first_no};
+ghost use Rattle.questions.specs.Questions.{refusal_of, first_no};
 ghost use Rattle.sheetfile.specs.Files.{told, file_cell, cell_questions, cells_from, placed, file_layout, layout_questions};
 ghost use Rattle.sheetfile.specs.Reading.{file_questions, stored};
 

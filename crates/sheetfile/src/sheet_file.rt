@@ -1,6 +1,6 @@
 // A file read into a store, and the sheet that is then lent the store.
 ghost use Rattle.std.specs.Prelude.{◌≡◌, ◌≤◌, true, length, take, drop, is_ok, IfErr, Ok};
-ghost use Rattle.range.specs.Questions.{refusal_of, first_no};
+ghost use Rattle.questions.specs.Questions.{refusal_of, first_no};
 ghost use Rattle.range.specs.Shapes.{Lawful};
 ghost use Rattle.range.specs.Sheets.{sheet, made_of};
 ghost use Rattle.sheetfile.specs.Files.{told};
@@ -11,13 +11,13 @@ use crate::fault::FileFault;
 use crate::reading::fill;
 use crate::refused::Refused;
 use datatype::data::Data;
+use questions::fault::Fault;
 use range::sheet::Range;
 
-impl FileFault {
-    /// The number of the refusal.
-    pub fn number(&self) -> u8
-        ensures { result ≡ (told self.now).number }
-    {
+impl Fault for FileFault {
+    ghost told = { told };
+
+    fn number(&self) -> u8 {
         match *self {
             FileFault::Contents => 18,
             FileFault::Sheet(fault) => fault.number(),

@@ -1,7 +1,7 @@
 use Rattle.std.proofs.Common.{◌+◌, ◌≤◌, length, Some, None, sym, ap, ◌∙◌, subst}
 use Rattle.std.proofs.lemmas.Result.{err_from_is_err_and, IfOk-from_err}
 use Rattle.sheetfile.specs.declared.fault.FileFault.{FileFault}
-use Rattle.range.specs.Questions.{refusal_of}
+use Rattle.questions.specs.Questions.{refusal_of}
 use Rattle.sheetfile.specs.Contents.{contents_of, no_parts, lawful}
 use Rattle.sheetfile.specs.Files.{told}
 use Rattle.sheetfile.specs.declared.contents.Contents.{Contents}

@@ -1,6 +1,6 @@
 use Rattle.std.proofs.Common.{length, Some, sym, ap, ◌∙◌}
 use Rattle.std.proofs.lemmas.Result.{err_from_is_err_and, IfOk-from_err}
-use Rattle.range.specs.Questions.{refusal_of, first_no}
+use Rattle.questions.specs.Questions.{refusal_of, first_no}
 use Rattle.sheetfile.specs.Files.{told, cell_questions, cells_from, placed}
 use Rattle.sheetfile.specs.Reading.{cell_of_file}
 use Rattle.sheetfile.specs.declared.fault.FileFault.{FileFault}

@@ -1,5 +1,5 @@
 use Rattle.std.proofs.Common.{◌≡◌, ◌-◌}
-use Rattle.range.specs.Questions.{first_no}
+use Rattle.questions.specs.Questions.{first_no}
 use Rattle.sheetfile.specs.Files.{file_cell, cell_questions, cells_from, placed}
 use Rattle.sheetfile.proofs.reading.write_cells.Given as goal
 

@@ -1,6 +1,6 @@
 use Rattle.std.proofs.Common.{◌≡◌, length, Some, None, Ok, Err, Option, Result, sym, refl, ap, ◌∙◌, arith}
 use Rattle.std.proofs.lemmas.Result.{err_from_is_err_and}
-use Rattle.range.specs.Questions.{Refusal, refusal_of}
+use Rattle.questions.specs.Questions.{Refusal, refusal_of}
 use Rattle.sheetfile.specs.Files.{told}
 use Rattle.sheetfile.specs.declared.fault.FileFault.{FileFault}
 use Rattle.sheetfile.proofs.SheetLaws.{readable_asked, asked_readable}

@@ -1,0 +1,13 @@
+// Why a call refuses.
+ghost use Rattle.std.specs.Prelude.{◌≡◌};
+ghost use Rattle.questions.specs.Questions.{Refusal};
+
+/// A reason to refuse. Anyone may add a kind of them; each reason tells one number.
+pub trait Fault {
+    // What the refusal tells: its number, and the values that it carries.
+    ghost told: { Self → Refusal };
+
+    /// The number of the refusal.
+    fn number(&self) -> u8
+        ensures { result ≡ (told self.now).number };
+}
