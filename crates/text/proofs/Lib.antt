@@ -1,6 +1,6 @@
-pub mod Coding
 pub mod Whole
 pub mod Strips
 pub mod TrimLaws
-pub mod TrimWalk
+pub mod TrimPart
+pub mod LibraryTrim
 pub mod NameLaws

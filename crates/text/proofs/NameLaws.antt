@@ -2,7 +2,8 @@
 use Rattle.std.proofs.Common.{◌≡◌, ℕ, zero, suc, ◌+◌, ◌-◌, ◌<◌, ◌≤◌, Bool, true, false, ◌&&◌, leb, List, [], ◌∷◌, length, get_or, drop, IfSome, Some, None, IsUtf8, Decides, MatchBool, Option, sym, refl, ap, ◌∙◌, subst, inl, inr, arith, Bor, MatchOption}
 use Rattle.std.proofs.lemmas.List.{at_drop_more}
 use Rattle.std.proofs.lemmas.Bool.{le-leb, leb-true, and_parts, and_from, cases_Bool}
-use Rattle.std.proofs.lemmas.Bool.Decides.{not_from_Decides}
+use Rattle.std.proofs.lemmas.List.FromFn.{length-range_with_len, get_or-range_with_len}
+use Rattle.std.specs.List.{range_with_len, AllWithin, HoldsAt}
 use Rattle.text.specs.Encoding.{is_utf8}
 use Rattle.text.specs.Naming.{name_start, name_end, slice, Lies, sound_name, names_from, names_of, sound_from, sound_names, Sound}
 use Rattle.text.proofs.Whole.{is_utf8_decides, is_utf8_yes}
@@ -23,28 +24,6 @@ names_from_get start text (e ∷ ends) (suc k) h = names_from_get e text ends k 
 
 pub names_get : (text ends : List ℕ) (k : ℕ) → k < length ends → get_or (names_of text ends) k [] ≡ slice text (name_start ends k) (name_end ends k)
 names_get text ends k h = names_from_get 0 text ends k h
-
--- the first name starts at 0, a later one at the end before it
-pub name_start_first : (ends : List ℕ) (k : ℕ) → k ≡ 0 → name_start ends k ≡ 0
-name_start_first ends k e = ap (λ (j : ℕ). get_or (0 ∷ ends) j 0) e
-
-pub name_start_later : (ends : List ℕ) (k : ℕ) → (k ≡ 0 → ⊥) → name_start ends k ≡ get_or ends (k - 1) 0
-name_start_later ends zero n = absurd (n refl)
-name_start_later ends (suc k) n = ap (λ (j : ℕ). get_or ends j 0) (omega arith)
-
--- ---- one name, from what the bytes between its start and its end are
-module _ (text ends : List ℕ) (k start : ℕ) where
-  -- whether it lies in the text
-  pub name_lies : k < length ends → start ≡ name_start ends k → (r : Option (Bor (List ℕ)))
-      → MatchOption r ((start ≤ name_end ends k) × (name_end ends k ≤ length text) → ⊥) (λ _. (start ≤ name_end ends k) × (name_end ends k ≤ length text))
-      → MatchOption r (Lies text ends k → ⊥) (λ _. Lies text ends k)
-  name_lies h e None n = λ l. n (omega arith, l.2)
-  name_lies h e (Some x) l = (h, omega arith, l.1)
-
-  -- which bytes it has
-  pub name_bytes : start ≡ name_start ends k → (r : Option (Bor (List ℕ))) → IfSome r (λ x. x.now ≡ slice text start (name_end ends k)) → IfSome r (λ x. x.now ≡ slice text (name_start ends k) (name_end ends k))
-  name_bytes e None f = tt
-  name_bytes e (Some x) f = f ∙ ap (λ (j : ℕ). slice text j (name_end ends k)) e
 
 -- the bytes of a name are those in the list of names
 pub name_listed : (text ends : List ℕ) (k : ℕ) → k < length ends → (r : Option (Bor (List ℕ))) → IfSome r (λ x. x.now ≡ slice text (name_start ends k) (name_end ends k)) → IfSome r (λ x. x.now ≡ get_or (names_of text ends) k [])
@@ -90,37 +69,26 @@ sound_decides text ends = (
   λ w. all_sound_from 0 text ends (λ k h. let l = w k h in (l.0.1, l.0.2, l.1)),
 )
 
--- the same by the test's answer
-pub sound_when : (text ends : List ℕ) (b : Bool) → b ≡ sound_names text ends → MatchBool b (Sound text ends) (Sound text ends → ⊥)
-sound_when text ends true e = (sound_decides text ends).0 (sym e)
-sound_when text ends false e = not_from_Decides (sound_names text ends) (sound_decides text ends) (sym e)
+-- an answer that decides `Sound` is the test's
+pub sound_as : (text ends : List ℕ) (r : Bool) → MatchBool r (Sound text ends) (Sound text ends → ⊥) → r ≡ sound_names text ends
+sound_as text ends true w = sym ((sound_decides text ends).1 w)
+sound_as text ends false n = elim (cases_Bool (sound_names text ends)) [ inl e ↦ absurd (n ((sound_decides text ends).0 e)) | inr e ↦ sym e ]
 
--- ---- a walk over the ends: one name on
-module _ (text ends : List ℕ) (start k : ℕ) (lt : k < length ends) where
-  -- the next name, and those after it
-  sound_split : sound_from start text (drop k ends) ≡ (sound_name text start (get_or ends k 0) && sound_from (get_or ends k 0) text (drop (k + 1) ends))
-  sound_split = at_drop_more (sound_from start text) ends k 0 lt
+-- one name is sound
+abbrev pub SoundName : List ℕ → List ℕ → ℕ → Type 0
+SoundName text ends k = Lies text ends k × IsUtf8 (slice text (name_start ends k) (name_end ends k))
 
-  -- a name that is not sound
-  stops : (Fine text start (get_or ends k 0) → ⊥) → sound_from start text (drop k ends) ≡ false
-  stops n =
-      elim (cases_Bool (sound_from start text (drop k ends))) [
-        | inl e ↦ absurd (n (fine_from text start (get_or ends k 0) (and_parts (sound_name text start (get_or ends k 0)) (sound_from (get_or ends k 0) text (drop (k + 1) ends)) (sym sound_split ∙ e)).0))
-        | inr e ↦ e
-      ]
-
-  -- it leaves the text
-  pub sound_leaves : ((start ≤ get_or ends k 0) × (get_or ends k 0 ≤ length text) → ⊥) → sound_from start text (drop k ends) ≡ false
-  sound_leaves n = stops (λ f. n (f.0, f.1))
-
-  module _ (name : List ℕ) (is : name ≡ slice text start (get_or ends k 0)) where
-    -- it is not UTF-8
-    pub sound_no_text : (IsUtf8 name → ⊥) → sound_from start text (drop k ends) ≡ false
-    sound_no_text n = stops (λ f. n (subst IsUtf8 (sym is) f.2))
-
-    -- it is sound
-    pub sound_on : (start ≤ get_or ends k 0) × (get_or ends k 0 ≤ length text) → IsUtf8 name → sound_from (get_or ends k 0) text (drop (k + 1) ends) ≡ sound_from start text (drop k ends)
-    sound_on l u = sym (sound_split ∙ ap (λ (b : Bool). b && sound_from (get_or ends k 0) text (drop (k + 1) ends)) (fine_yes text start (get_or ends k 0) (l.0, l.1, subst IsUtf8 is u)))
+-- each name in turn is sound, or some name is not
+pub sound_each : (text ends : List ℕ) (n : ℕ) (r : Bool) → n ≡ length ends
+    → MatchBool r (AllWithin (SoundName text ends) (range_with_len 0 n) 0 (length (range_with_len 0 n))) ((k : ℕ) × (k < length (range_with_len 0 n)) × HoldsAt (λ i. SoundName text ends i → ⊥) (range_with_len 0 n) k)
+    → MatchBool r (Sound text ends) (Sound text ends → ⊥)
+sound_each text ends n true e all = λ k h.
+    let at : get_or (range_with_len 0 n) k 0 ≡ k = omega (arith, get_or-range_with_len 0 n k 0 (omega arith)) in
+    subst (SoundName text ends) at (all k 0 (omega arith) (omega (arith, length-range_with_len 0 n)))
+sound_each text ends n false e (k, h, unsound) = λ w.
+    let l : k < n = omega (arith, length-range_with_len 0 n) in
+    let at : get_or (range_with_len 0 n) k 0 ≡ k = omega (arith, get_or-range_with_len 0 n k 0 l) in
+    unsound 0 (subst (SoundName text ends) (sym at) (w k (omega arith)))
 
 -- ---- laws for callers
 

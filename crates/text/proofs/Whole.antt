@@ -1,54 +1,19 @@
--- A text, character after character, and the test for UTF-8.
-use Rattle.std.proofs.Common.{◌≡◌, ℕ, ◌+◌, ◌-◌, ◌<◌, ◌≤◌, true, false, ◌⊎◌, List, [], ◌∷◌, ◌++◌, length, take, drop, IsUtf8, Decides, sym, ap, ◌∙◌, subst, inl, inr, arith, length-append, length-drop, take_all, take-add}
+-- The test for UTF-8, and the first character.
+use Rattle.std.proofs.Common.{◌≡◌, ℕ, zero, suc, ◌+◌, ◌≤◌, min, Bool, true, false, ◌⊎◌, List, ◌++◌, length, take, IsUtf8, MatchBool, Decides, sym, ap, ◌∙◌, subst, inl, inr, arith, length-append}
 use lib.Seq.{take-append_seam}
-use lib.Utf8.{scalar, scalars, encode, encodes}
-use Rattle.std.specs.Str.{chars, bytes_eq}
-use Rattle.std.proofs.lemmas.Slice.Eq.{bytes_eq-Decides}
-use Rattle.std.proofs.lemmas.Bool.{and_parts, and_from, cases_Bool}
+use lib.Utf8.{encode}
+use Rattle.std.specs.Str.{is_utf8 as std_is_utf8}
+use Rattle.std.specs.Str.Lossy.{valid_len_up_to, utf8_valid_len}
+use Rattle.std.proofs.lemmas.List.{take-take, length-take-le}
+use Rattle.std.proofs.lemmas.Bool.{cases_Bool, cases_lt, cond-true, cond-false, both_ways}
 use Rattle.std.proofs.lemmas.Bool.Decides.{not_from_Decides}
-use Rattle.std.proofs.lemmas.Str.{IsUtf8-append, IsUtf8-encode, length-encode, len_utf8_bounds, IsCharBoundary-from_take, IsUtf8-drop, scalars-chars, encodes-chars}
-use Rattle.text.specs.Encoding.{NoCharacter, Begins, is_utf8}
+use Rattle.std.proofs.lemmas.Str.{IsUtf8-encode, length-encode, len_utf8_bounds, IsUtf8-from_is_utf8, is_utf8-from_IsUtf8}
+use Rattle.text.specs.Encoding.{NoCharacter, is_utf8}
 
--- the front of two lists in a row
-pub take_front : (xs ys : List ℕ) → take (length xs) (xs ++ ys) ≡ xs
-take_front xs ys = take-append_seam xs ys
-
--- one character on: it takes at least a byte, lies inside, and what was UTF-8 so far still is
-pub utf8_more : (bs : List ℕ) (i c n : ℕ) → i ≤ length bs → Begins (drop i bs) c n → (1 ≤ n) × (i + n ≤ length bs) × (IsUtf8 (take i bs) → IsUtf8 (take (i + n) bs))
-utf8_more bs i c n h b =
-    let w : n ≡ length (encode c) = b.1 in
-    let t : take n (drop i bs) ≡ encode c = ap (take n) b.2 ∙ ap (λ (k : ℕ). take k (encode c ++ drop n (drop i bs))) w ∙ take_front (encode c) (drop n (drop i bs)) in
-    let l : length (drop i bs) ≡ length (encode c) + length (drop n (drop i bs)) = ap length b.2 ∙ length-append (encode c) (drop n (drop i bs)) in
-    let one : 1 ≤ n = omega (arith, length-encode c, len_utf8_bounds c) in
-    let room : i + n ≤ length bs = omega (arith, length-drop i bs) in
-    (one, room, λ u. subst IsUtf8 (sym (take-add i n bs)) (IsUtf8-append (take i bs) (take n (drop i bs)) u (subst IsUtf8 (sym t) (IsUtf8-encode c b.0))))
-
--- bytes that no character begins are no encoding, unless there are none
-no_char : (cs bs : List ℕ) → 0 < length bs → scalars cs ≡ true → encodes cs ≡ bs → NoCharacter bs → ⊥
-no_char [] bs h s e n = omega (arith, ap length e)
-no_char (c ∷ cs) bs h s e n = n c (encodes cs) (and_parts (scalar c) (scalars cs) s).0 (sym e)
-
--- UTF-8 so far, and no character begins the rest: the whole is not UTF-8
-pub utf8_stops : (bs : List ℕ) (i : ℕ) → i < length bs → IsUtf8 (take i bs) → NoCharacter (drop i bs) → IsUtf8 bs → ⊥
-utf8_stops bs i h t n u =
-    let d = IsUtf8-drop bs i u (IsCharBoundary-from_take bs i u (omega arith) t) in
-    no_char d.0 (drop i bs) (omega (arith, length-drop i bs)) d.1.0 d.1.1 n
-
--- `&bytes[i..]` is what follows the first i bytes
-pub rest_is : (bs : List ℕ) (i : ℕ) → take (length bs - i) (drop i bs) ≡ drop i bs
-rest_is bs i = take_all (length bs - i) (drop i bs) (omega (arith, length-drop i bs))
-
--- UTF-8 up to the end
-pub utf8_all : (bs : List ℕ) (i : ℕ) → length bs ≤ i → IsUtf8 (take i bs) → IsUtf8 bs
-utf8_all bs i h u = subst IsUtf8 (take_all i bs h) u
-
--- the test decides whether bytes are UTF-8
+-- the test is the library's
 pub is_utf8_decides : (bs : List ℕ) → Decides (is_utf8 bs) (IsUtf8 bs)
-unfolding is_utf8
-is_utf8_decides bs = (
-  λ e. let p = and_parts (scalars (chars bs)) (bytes_eq (encodes (chars bs)) bs) e in (chars bs, (p.0, (bytes_eq-Decides (encodes (chars bs)) bs).0 p.1)),
-  λ u. and_from (scalars (chars bs)) (bytes_eq (encodes (chars bs)) bs) (scalars-chars bs u) ((bytes_eq-Decides (encodes (chars bs)) bs).1 (encodes-chars bs u)),
-)
+unfolding is_utf8 std_is_utf8
+is_utf8_decides bs = (IsUtf8-from_is_utf8 bs, is_utf8-from_IsUtf8 bs)
 
 pub is_utf8_yes : (bs : List ℕ) → IsUtf8 bs → is_utf8 bs ≡ true
 is_utf8_yes bs u = (is_utf8_decides bs).1 u
@@ -59,3 +24,38 @@ is_utf8_no bs n = elim (cases_Bool (is_utf8 bs)) [ inl e ↦ absurd (n ((is_utf8
 -- bytes are UTF-8 or not
 pub utf8_cases : (bs : List ℕ) → IsUtf8 bs ⊎ (IsUtf8 bs → ⊥)
 utf8_cases bs = elim (cases_Bool (is_utf8 bs)) [ inl e ↦ inl ((is_utf8_decides bs).0 e) | inr e ↦ inr (not_from_Decides (is_utf8 bs) (is_utf8_decides bs) e) ]
+
+-- an answer that decides `IsUtf8` is the test's
+pub is_utf8_as : (bs : List ℕ) (r : Bool) → MatchBool r (IsUtf8 bs) (IsUtf8 bs → ⊥) → r ≡ is_utf8 bs
+is_utf8_as bs true u = sym (is_utf8_yes bs u)
+is_utf8_as bs false n = sym (is_utf8_no bs n)
+
+-- ---- the first character, read from the bytes in front
+
+-- a front that is UTF-8 is no longer than the longest
+valid_reaches : (bs : List ℕ) (m n : ℕ) → IsUtf8 (take m bs) → m ≤ n → m ≤ valid_len_up_to bs n
+valid_reaches bs m zero u h = h
+valid_reaches bs m (suc n) u h =
+    elim (cases_Bool (std_is_utf8 (take (suc n) bs))) [
+      | inl e ↦ subst (λ (k : ℕ). m ≤ k) (sym (cond-true (std_is_utf8 (take (suc n) bs)) (suc n) (valid_len_up_to bs n) e)) h
+      | inr e ↦
+          let shorter : m ≤ n = elim (cases_lt m (suc n)) [
+            | inl l ↦ omega arith
+            | inr l ↦ let same : m ≡ suc n = omega arith in absurd (both_ways (std_is_utf8 (take (suc n) bs)) e (is_utf8-from_IsUtf8 (take (suc n) bs) (subst (λ (k : ℕ). IsUtf8 (take k bs)) same u)))
+          ] in
+          subst (λ (k : ℕ). m ≤ k) (sym (cond-false (std_is_utf8 (take (suc n) bs)) (suc n) (valid_len_up_to bs n) e)) (valid_reaches bs m n u shorter)
+    ]
+
+-- four bytes have room for any character: where no front of the first four is UTF-8, no character begins the bytes
+pub no_character : (bs front : List ℕ) → front ≡ take (min (length bs) 4) bs → utf8_valid_len front ≡ 0 → NoCharacter bs
+unfolding utf8_valid_len
+no_character bs front is none c rest s q =
+    let n = min (length bs) 4 in
+    let m = length (encode c) in
+    let long : length bs ≡ m + length rest = ap length q ∙ length-append (encode c) rest in
+    let some : 1 ≤ m = omega (arith, length-encode c, len_utf8_bounds c) in
+    let few : m ≤ 4 = omega (arith, length-encode c, len_utf8_bounds c) in
+    let first : take m front ≡ encode c = ap (take m) is ∙ take-take m n bs (omega arith) ∙ ap (take m) q ∙ take-append_seam (encode c) rest in
+    let within : m ≤ length front = omega (arith, ap length is, length-take-le n bs (omega arith)) in
+    let reach = valid_reaches front m (length front) (subst IsUtf8 (sym first) (IsUtf8-encode c s)) within in
+    omega arith

@@ -1,10 +1,11 @@
 // Names that lie one after another in one text.
-ghost use Rattle.std.specs.Prelude.{◌≡◌, ◌≤◌, [], length, IfSome, MatchBool, MatchOption, slice_index_or};
+ghost use Rattle.std.specs.Prelude.{◌≡◌, [], length, IfSome, MatchBool, MatchOption, slice_index_or};
 ghost use Rattle.text.specs.Naming.{Lies, Sound, slice, name_start, name_end, names_of, sound_names};
 
 use crate::utf8::is_utf8;
 
 /// Names in one text. Each runs from the end before it (the first: from 0) to its own end.
+/// The caller lends the text and the ends: a device without heap has no room of its own for a list of texts.
 #[derive(Clone, Copy)]
 pub struct Names<'text, 'ends> {
     pub text: &'text [u8],
@@ -17,20 +18,7 @@ impl<'text> Names<'text, '_> {
         ensures is { result ≡ sound_names self.now.text.now self.now.ends.now }
         ensures law { MatchBool result (Sound self.now.text.now self.now.ends.now) (Sound self.now.text.now self.now.ends.now → ⊥) }
     {
-        let text = self.text;
-        let ends = self.ends;
-        let mut start = 0;
-        for next in ends {
-            let end = *next as usize;
-            let Some(name) = bytes_between(text, start, end) else {
-                return false;
-            };
-            if !is_utf8(name) {
-                return false;
-            }
-            start = end;
-        }
-        true
+        (0..self.count()).all(|index| self.get(index).is_some_and(is_utf8))
     }
 
     /// How many names there are.
@@ -47,28 +35,10 @@ impl<'text> Names<'text, '_> {
         ensures bytes { IfSome result (λ name. name.now ≡ slice self.now.text.now (name_start self.now.ends.now index) (name_end self.now.ends.now index)) }
         ensures listed { IfSome result (λ name. name.now ≡ slice_index_or (names_of self.now.text.now self.now.ends.now) index []) }
     {
-        let text = self.text;
-        let ends = self.ends;
-        if index >= ends.len() {
-            return None;
-        }
-        let start = if index == 0 {
-            0
-        } else {
-            ends[index - 1] as usize
-        };
-        bytes_between(text, start, ends[index] as usize)
-    }
-}
-
-/// The bytes from start to end: none where end lies before start or past the text.
-fn bytes_between(text: &[u8], start: usize, end: usize) -> Option<&[u8]>
-    ensures lies { MatchOption result ((start ≤ end) × (end ≤ length text.now) → ⊥) (λ _. (start ≤ end) × (end ≤ length text.now)) }
-    ensures bytes { IfSome result (λ part. part.now ≡ slice text.now start end) }
-{
-    if start <= end && end <= text.len() {
-        Some(&text[start..end])
-    } else {
-        None
+        let end = *self.ends.get(index)? as usize;
+        let start = index
+            .checked_sub(1)
+            .map_or(0, |before| self.ends[before] as usize);
+        self.text.get(start..end)
     }
 }

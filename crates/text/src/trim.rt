@@ -2,9 +2,6 @@
 ghost use Rattle.std.specs.Prelude.{◌≡◌, ℕ, ◌+◌, ◌≤◌, List, length, take, drop};
 ghost use Rattle.text.specs.Trimming.{trimmed, trimmed_start, Trims, Leaves};
 
-use crate::blank::is_blank;
-use crate::utf8::first_char;
-
 /// A part of some bytes: where it starts, and how many bytes it has.
 #[derive(Clone, Copy, PartialEq, Eq, Debug)]
 pub struct Part {
@@ -21,29 +18,22 @@ pub fn trimmed_part(bytes: &[u8]) -> Part
     ensures law { Leaves bytes.now result.start result.len }
     ensures only { (start len : ℕ) → Leaves bytes.now start len → (start ≡ result.start) × (len ≡ result.len) }
 {
-    let mut start = 0;
-    // Just past the last character that is not blank; 0 as long as there was none.
-    let mut end = 0;
-    let mut at = 0;
-    while at < bytes.len() {
-        let Some(first) = first_char(&bytes[at..]) else {
-            return Part {
-                start: 0,
-                len: bytes.len(),
-            };
+    let Ok(text) = str::from_utf8(bytes) else {
+        return Part {
+            start: 0,
+            len: bytes.len(),
         };
-        let next = at + first.len;
-        if !is_blank(first.character) {
-            if end == 0 {
-                start = at;
-            }
-            end = next;
-        }
-        at = next;
-    }
+    };
+    let from_first = text.trim_start();
+    // What is blank throughout leaves nothing, at 0 and not behind the blanks.
+    let start = if from_first.is_empty() {
+        0
+    } else {
+        text.len() - from_first.len()
+    };
     Part {
         start,
-        len: end - start,
+        len: from_first.trim_end().len(),
     }
 }
 
@@ -53,7 +43,5 @@ pub fn trim(bytes: &[u8]) -> &[u8]
     ensures law { Trims bytes.now result.now }
     ensures only { (x : List ℕ) → Trims bytes.now x → x ≡ trimmed bytes.now }
 {
-    let Part { start, len } = trimmed_part(bytes);
-    let end = start + len;
-    &bytes[start..end]
+    str::from_utf8(bytes).map_or(bytes, |text| text.trim().as_bytes())
 }
