@@ -1,14 +1,14 @@
 -- The library's trimming, in the words of this crate.
-use Rattle.std.proofs.Common.{◌≡◌, ℕ, ◌-◌, ◌<◌, Bool, true, false, ◌&&◌, cond, List, [], ◌∷◌, ◌++◌, reverse, length, IsUtf8, sym, refl, ap, ◌∙◌, subst, inl, inr, arith, eqb, length-append}
+use Rattle.std.proofs.Common.{◌≡◌, ℕ, ◌-◌, ◌<◌, Bool, true, false, ◌&&◌, cond, List, [], ◌∷◌, ◌++◌, reverse, length, IsUtf8, sym, refl, ap, ◌∙◌, subst, inl, inr, arith, eqb}
 use mathlib.Core.List.{reverse-cons, reverse-append}
 use lib.Utf8.{scalar, scalars, encodes}
 use Rattle.std.specs.Char.{is_whitespace}
 use Rattle.std.specs.Str.{chars, skip_leading_whitespace, drop_trailing_whitespace, trim_start, trim_end, trim as std_trim}
-use Rattle.std.proofs.lemmas.Bool.{cases_Bool, cond-true, cond-false, and_parts, and_from}
+use Rattle.std.proofs.lemmas.Bool.{cases_Bool, cond-true, cond-false, and_parts}
 use Rattle.std.proofs.Math.Bool.{and-true, and-false}
 use Rattle.std.proofs.Math.Dec.{eqb-suc-zero}
 use Rattle.std.proofs.lemmas.Bool.Decides.{nat_tests}
-use Rattle.std.proofs.lemmas.Str.{chars-encodes, scalars-chars, length-le-encodes}
+use Rattle.std.proofs.lemmas.Str.{chars-encodes, scalars-chars}
 use Rattle.std.proofs.lemmas.List.{length-reverse}
 use Rattle.text.specs.Encoding.{is_utf8}
 use Rattle.text.specs.WhiteSpace.{white_space, blank}
@@ -57,30 +57,28 @@ scalars_past (c ∷ cs) s =
       | inr e ↦ subst (λ (l : List ℕ). scalars l ≡ true) (sym (cond-false (blank c) (past_blanks cs) (c ∷ cs) e)) s
     ]
 
-module _ (bs : List ℕ) (u : IsUtf8 bs) where
-  -- the text from its first character on that is not blank
-  pub from_first_is : trim_start bs ≡ encodes (past_blanks (chars bs))
+module _ (bs text : List ℕ) (u : IsUtf8 bs) (is : text ≡ bs) where
+  -- the text from its first character on that is not blank, and the bytes in front of it
+  front_is : trim_start text ≡ encodes (past_blanks (chars bs))
   unfolding trim_start
-  from_first_is = ap encodes (skipped (chars bs))
+  front_is = ap (λ (l : List ℕ). encodes (skip_leading_whitespace (chars l))) is ∙ ap encodes (skipped (chars bs))
 
-  -- where that begins: 0 if it is empty
-  pub start_is : (t : List ℕ) → t ≡ trim_start bs → (length t ≡ 0 → trimmed_start bs ≡ 0) × (0 < length t → trimmed_start bs ≡ length bs - length t)
+  pub start_is : (first : List ℕ) → first ≡ trim_start text → 0 < length first → length text - length first ≡ trimmed_start bs
   unfolding trimmed_start
-  start_is t e =
-      let cs = chars bs in
-      let counted : trimmed_start bs ≡ in_front (length bs) (past_blanks cs) = cond-true (is_utf8 bs) (in_front (length bs) (past_blanks cs)) 0 (is_utf8_yes bs u) in
-      by (past_blanks cs) counted (e ∙ from_first_is)
+  start_is first e some =
+      let cs = past_blanks (chars bs) in
+      by cs (cond-true (is_utf8 bs) (in_front (length bs) cs) 0 (is_utf8_yes bs u)) (e ∙ front_is)
     where
-      by : (xs : List ℕ) → trimmed_start bs ≡ in_front (length bs) xs → t ≡ encodes xs → (length t ≡ 0 → trimmed_start bs ≡ 0) × (0 < length t → trimmed_start bs ≡ length bs - length t)
-      by [] c q = (λ _. c, λ h. absurd (omega (arith, ap length q)))
-      by (x ∷ xs) c q = (λ h. absurd (omega (arith, ap length q, length-le-encodes (x ∷ xs))), λ _. omega (arith, c, ap length q))
+      by : (xs : List ℕ) → trimmed_start bs ≡ in_front (length bs) xs → first ≡ encodes xs → length text - length first ≡ trimmed_start bs
+      by [] c q = absurd (omega (arith, ap length q))
+      by (x ∷ xs) c q = omega (arith, c, ap length q, ap length is)
 
   -- the text without the blank characters at both ends
-  pub trimmed_is : std_trim bs ≡ trimmed bs
+  pub trimmed_is : std_trim text ≡ trimmed bs
   unfolding trim_end trimmed
   trimmed_is =
       let front = past_blanks (chars bs) in
-      ap (λ (l : List ℕ). encodes (drop_trailing_whitespace (chars l))) from_first_is
+      ap (λ (l : List ℕ). encodes (drop_trailing_whitespace (chars l))) front_is
       ∙ ap (λ (l : List ℕ). encodes (drop_trailing_whitespace l)) (chars-encodes front (scalars_past (chars bs) (scalars-chars bs u)))
       ∙ ap encodes (dropped front)
       ∙ sym (cond-true _ (encodes (stripped (chars bs))) bs (is_utf8_yes bs u))

@@ -1,6 +1,6 @@
 -- Where in the bytes lies what trimming leaves: `trimmed_start` and the length of `trimmed` against the relation `Leaves`.
-use Rattle.std.proofs.Common.{◌≡◌, ℕ, ◌+◌, ◌<◌, ◌≤◌, true, List, [], ◌∷◌, ◌++◌, length, take, drop, IsUtf8, sym, refl, ap, ◌∙◌, subst, inl, inr, arith, length-append, length-drop}
-use lib.Utf8.{scalars, encodes}
+use Rattle.std.proofs.Common.{◌≡◌, ℕ, ◌+◌, ◌≤◌, true, List, [], ◌∷◌, ◌++◌, length, take, drop, IsUtf8, sym, refl, ap, ◌∙◌, subst, inl, inr, arith, length-append, length-drop}
+use lib.Utf8.{encodes}
 use Rattle.std.proofs.ByRecursion.{All-append}
 use Rattle.std.proofs.lemmas.List.{drop_at, take_at, take_all, length-take-le, nil_from_length, take-append-drop, drop-drop}
 use Rattle.std.proofs.lemmas.Bool.{cases_lt}
@@ -66,14 +66,14 @@ leaves_trimmed bs =
       | inr n ↦ subst (λ (k : ℕ). Leaves bs k (length (trimmed bs))) (sym (trimmed_start_other bs n)) (subst (λ (k : ℕ). Leaves bs 0 k) (ap length (sym (trimmed_other bs n))) (leaves_other bs n))
     ]
 
--- numbers that are the functions' meet it
-pub leaves_as : (bs : List ℕ) (start len : ℕ) → start ≡ trimmed_start bs → len ≡ length (trimmed bs) → Leaves bs start len
-leaves_as bs start len e f = subst (λ (k : ℕ). Leaves bs k len) (sym e) (subst (λ (k : ℕ). Leaves bs (trimmed_start bs) k) (sym f) (leaves_trimmed bs))
+-- where nothing is left, that is at 0
+pub nothing_left : (bs : List ℕ) → length (trimmed bs) ≡ 0 → trimmed_start bs ≡ 0
+nothing_left bs h = (leaves_trimmed bs).nothing h
 
 -- ---- and nothing else does
 
 -- the part that trimming leaves is the function's, so there is only one
-pub leaves_is : (bs : List ℕ) (start len : ℕ) → Leaves bs start len → (start ≡ trimmed_start bs) × (len ≡ length (trimmed bs)) × (take len (drop start bs) ≡ trimmed bs)
+leaves_is : (bs : List ℕ) (start len : ℕ) → Leaves bs start len → (start ≡ trimmed_start bs) × (len ≡ length (trimmed bs)) × (take len (drop start bs) ≡ trimmed bs)
 leaves_is bs start len v =
     let e = trims_only bs (take len (drop start bs)) v.part in
     let l : length (take len (drop start bs)) ≡ len = length-take-le len (drop start bs) (omega (arith, v.inside, length-drop start bs)) in
@@ -100,9 +100,9 @@ leaves_is bs start len v =
           | inr n ↦ omega (arith, trimmed_start_other bs n, v.inside, ap length (v.part.other n))
         ]
 
--- two such parts are the same
-pub leaves_only : (bs : List ℕ) (start len : ℕ) → Leaves bs start len → (s n : ℕ) → Leaves bs s n → (s ≡ start) × (n ≡ len)
-leaves_only bs start len v s n w =
-    let a = leaves_is bs start len v in
-    let b = leaves_is bs s n w in
-    (b.0 ∙ sym a.0, b.1 ∙ sym a.1)
+-- a part that starts and ends where the functions say: it lies inside, is what trimming leaves, and the only such part
+pub part_is : (bs : List ℕ) (start len : ℕ) → start ≡ trimmed_start bs → len ≡ length (trimmed bs)
+    → (start + len ≤ length bs) × (take len (drop start bs) ≡ trimmed bs) × Leaves bs start len × ((s n : ℕ) → Leaves bs s n → (s ≡ start) × (n ≡ len))
+part_is bs start len e f =
+    let v : Leaves bs start len = subst (λ (k : ℕ). Leaves bs k len) (sym e) (subst (λ (k : ℕ). Leaves bs (trimmed_start bs) k) (sym f) (leaves_trimmed bs)) in
+    (v.inside, (leaves_is bs start len v).2, v, λ s n w. let i = leaves_is bs s n w in (i.0 ∙ sym e, i.1 ∙ sym f))

@@ -1,5 +1,5 @@
 -- The test for UTF-8, and the first character.
-use Rattle.std.proofs.Common.{◌≡◌, ℕ, zero, suc, ◌+◌, ◌≤◌, min, Bool, true, false, ◌⊎◌, List, ◌++◌, length, take, IsUtf8, MatchBool, Decides, sym, ap, ◌∙◌, subst, inl, inr, arith, length-append}
+use Rattle.std.proofs.Common.{◌≡◌, ℕ, zero, suc, ◌+◌, ◌≤◌, min, Bool, true, false, ◌⊎◌, List, length, take, IsUtf8, MatchBool, Decides, sym, ap, ◌∙◌, subst, inl, inr, arith, length-append}
 use lib.Seq.{take-append_seam}
 use lib.Utf8.{encode}
 use Rattle.std.specs.Str.{is_utf8 as std_is_utf8}

@@ -25,15 +25,16 @@ pub fn trimmed_part(bytes: &[u8]) -> Part
         };
     };
     let from_first = text.trim_start();
-    // What is blank throughout leaves nothing, at 0 and not behind the blanks.
-    let start = if from_first.is_empty() {
+    let kept = from_first.trim_end();
+    // Where all is blank, nothing is left at 0, and not behind the blanks.
+    let start = if kept.is_empty() {
         0
     } else {
         text.len() - from_first.len()
     };
     Part {
         start,
-        len: from_first.trim_end().len(),
+        len: kept.len(),
     }
 }
 

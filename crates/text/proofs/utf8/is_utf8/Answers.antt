@@ -1,4 +1,4 @@
-use Rattle.std.proofs.Common.{MatchBool, rules}
+use Rattle.std.proofs.Common.{rules}
 use Rattle.text.proofs.Whole.{is_utf8_as}
 use Rattle.text.proofs.utf8.is_utf8.Goals as goal
 

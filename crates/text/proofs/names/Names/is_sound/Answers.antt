@@ -1,4 +1,4 @@
-use Rattle.std.proofs.Common.{ℕ, length, IsUtf8, rules, arith}
+use Rattle.std.proofs.Common.{rules, arith}
 use Rattle.std.proofs.lemmas.Iterator.{cases_from_all, YieldsList-from_range}
 use Rattle.text.proofs.NameLaws.{SoundName, sound_each, sound_as}
 use Rattle.text.proofs.names.Names.is_sound.Goals as goal
