@@ -58,11 +58,12 @@ scalars_past (c ∷ cs) s =
     ]
 
 module _ (bs text : List ℕ) (u : IsUtf8 bs) (is : text ≡ bs) where
-  -- the text from its first character on that is not blank, and the bytes in front of it
+  -- the text from its first character on that is not blank
   front_is : trim_start text ≡ encodes (past_blanks (chars bs))
   unfolding trim_start
   front_is = ap (λ (l : List ℕ). encodes (skip_leading_whitespace (chars l))) is ∙ ap encodes (skipped (chars bs))
 
+  -- where that begins, unless it is empty
   pub start_is : (first : List ℕ) → first ≡ trim_start text → 0 < length first → length text - length first ≡ trimmed_start bs
   unfolding trimmed_start
   start_is first e some =

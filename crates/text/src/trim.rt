@@ -26,14 +26,11 @@ pub fn trimmed_part(bytes: &[u8]) -> Part
     };
     let from_first = text.trim_start();
     let kept = from_first.trim_end();
-    // Where all is blank, nothing is left at 0, and not behind the blanks.
-    let start = if kept.is_empty() {
-        0
-    } else {
-        text.len() - from_first.len()
-    };
+    if kept.is_empty() {
+        return Part { start: 0, len: 0 };
+    }
     Part {
-        start,
+        start: text.len() - from_first.len(),
         len: kept.len(),
     }
 }

@@ -13,7 +13,7 @@ returns-in_default c =
     let start = sym (trimmed_start_other bs c.in_default.ensures.cases.0) in
     let len = ap length (sym (trimmed_other bs c.in_default.ensures.cases.0)) in
     let p = part_is bs 0 (length bs) start len in
-    record { start = start; len = len; inside = p.0; part = p.1; law = p.2; only = p.3 }
+    record { start = start; len = omega (arith, len); inside = p.0; part = p.1; law = p.2; only = p.3 }
 
 -- all is blank
 pub returns-then-is_empty : goal.returns-then-is_empty
@@ -21,20 +21,21 @@ returns-then-is_empty c =
     let bs = c.args.bytes.now in
     let text = c.in-Ok.ensures.cases in
     let kept = c.trim_end-kept.result.now in
-    let len = ap length (c.trim_end-kept.ensures.trim ∙ ap trim_end c.trim_start-from_first.ensures.trim ∙ trimmed_is bs c.in-Ok.text.now text.1 text.0) in
-    let start = sym (nothing_left bs (sym len ∙ eqb-true (length kept) 0 (sym c.is_empty.ensures ∙ c.if-is_empty.true))) in
-    let p = part_is bs 0 (length kept) start len in
+    let kept_is = c.trim_end-kept.ensures.trim ∙ ap trim_end c.trim_start-from_first.ensures.trim ∙ trimmed_is bs c.in-Ok.text.now text.1 text.0 in
+    let len = sym (eqb-true (length kept) 0 (sym c.is_empty.ensures ∙ c.if-is_empty.true)) ∙ ap length kept_is in
+    let start = sym (nothing_left bs (sym len)) in
+    let p = part_is bs 0 0 start len in
     record { start = start; len = len; inside = p.0; part = p.1; law = p.2; only = p.3 }
 
 -- something is kept
-pub returns-else-is_empty : goal.returns-else-is_empty
-returns-else-is_empty c =
+pub returns : goal.returns
+returns c =
     let bs = c.args.bytes.now in
     let text = c.in-Ok.ensures.cases in
     let first = c.trim_start-from_first.result.now in
     let kept = c.trim_end-kept.result.now in
-    let len = ap length (c.trim_end-kept.ensures.trim ∙ ap trim_end c.trim_start-from_first.ensures.trim ∙ trimmed_is bs c.in-Ok.text.now text.1 text.0) in
+    let kept_is = c.trim_end-kept.ensures.trim ∙ ap trim_end c.trim_start-from_first.ensures.trim ∙ trimmed_is bs c.in-Ok.text.now text.1 text.0 in
     let some = eqb-false (length kept) 0 (sym c.is_empty.ensures ∙ c.if-is_empty.false) in
     let start = start_is bs c.in-Ok.text.now text.1 text.0 first c.trim_start-from_first.ensures.trim (omega (arith, some, c.trim_end-kept.ensures.value.4, c.trim_end-kept.ensures.value.5)) in
-    let p = part_is bs (length c.in-Ok.text.now - length first) (length kept) start len in
-    record { start = start; len = len; inside = p.0; part = p.1; law = p.2; only = p.3 }
+    let p = part_is bs (length c.in-Ok.text.now - length first) (length kept) start (ap length kept_is) in
+    record { start = omega (arith, start); len = omega (arith, ap length kept_is); inside = p.0; part = p.1; law = p.2; only = p.3 }

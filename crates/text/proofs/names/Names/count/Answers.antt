@@ -1,6 +1,6 @@
-use Rattle.std.proofs.Common.{sym, refl}
+use Rattle.std.proofs.Common.{sym}
 use Rattle.text.proofs.NameLaws.{names_length}
 use Rattle.text.proofs.names.Names.count.Goals as goal
 
-pub returns : goal.returns
-returns c = record { ends = refl; names = sym (names_length c.args.self.now.text.now c.args.self.now.ends.now) }
+pub returns-clause-names : goal.returns-clause-names
+returns-clause-names c = sym (names_length c.args.self.now.text.now c.args.self.now.ends.now)
