@@ -146,16 +146,16 @@ fraction_by x y k t u K e =
     ∙ ap (λ (z : ℕ). round binary64 false (num x % den x * k) z) (mul-one (den x))
 
 -- the fraction is below 1, so its product with k is at most k
-fraction_under : (x : Float) (k : ℕ) → k < 2 ^ 17 → Under (fraction_times x k) (2 ^ 18)
-fraction_under x k K =
+fraction_under : (x : Float) (k bound : ℕ) → k < bound → bound ≤ 2 ^ 53 → Under (fraction_times x k) bound
+fraction_under x k bound K B =
     let y = fraction_times x k in
     let l : num x % den x * k ≤ k * den x = le_trans (mul-le-mul_right k (le_of_lt (mod-lt (num x) (den_pos x)))) (le_of_eq (mul_comm (den x) k)) in
-    let b = round_at_most (num x % den x * k) (den x) k (den_pos x) l (le_trans (le_of_lt K) (lit≤ tt)) in
-    (b.0, lt_of_le_of_lt b.1 (mul-lt-mul_of_pos_right (lt_of_lt_of_le K (lit≤ tt)) (den_pos y)))
+    let b = round_at_most (num x % den x * k) (den x) k (den_pos x) l (le_trans (le_of_lt K) B) in
+    (b.0, lt_of_le_of_lt b.1 (mul-lt-mul_of_pos_right K (den_pos y)))
 
 -- and so for the product as the program has it
-pub fraction_by_under : (x y : Float) (k : ℕ) → T (fits binary64 x) → Under x (2 ^ 32) → k < 2 ^ 17 → y ≡ sub binary64 x (Floats.trunc binary64 x) → Under (mul binary64 y (of_int binary64 (pos k))) (2 ^ 18)
-fraction_by_under x y k t u K e = subst (λ (z : Float). Under z (2 ^ 18)) (sym (fraction_by x y k t u (le_trans (le_of_lt K) (lit≤ tt)) e)) (fraction_under x k K)
+pub fraction_by_under : (x y : Float) (k bound : ℕ) → T (fits binary64 x) → Under x (2 ^ 32) → k < bound → bound ≤ 2 ^ 53 → y ≡ sub binary64 x (Floats.trunc binary64 x) → Under (mul binary64 y (of_int binary64 (pos k))) bound
+fraction_by_under x y k bound t u K B e = subst (λ (z : Float). Under z bound) (sym (fraction_by x y k t u (le_trans (le_of_lt K) B) e)) (fraction_under x k bound K B)
 
 -- a whole number below 2 ^ 53 comes back from its float
 half_back : (n : ℕ) → n < 2 ^ 53 → to_unsigned 64 (round binary64 false n 1) ≡ n
@@ -175,5 +175,5 @@ half_part (fin true m d) y r u e h = absurd (true≢false u.0.0)
 half_part (fin false m d) y r u e h = h ∙ ap (to_unsigned 64) e ∙ half_back ((2 * (m * up d) + down d) / (2 * down d)) (half_small (m * up d) (down d) (down_pos d) u.1)
 
 -- which is small where the float is
-pub half_bound : (x : Float) → Under x (2 ^ 18) → half_up x < 2 ^ 53
-half_bound x u = half_small (num x) (den x) (den_pos x) (omega (arith, den_pos x))
+pub half_bound : (x : Float) → Under x (2 ^ 32) → half_up x < 2 ^ 53
+half_bound x u = half_small (num x) (den x) (den_pos x) u.1

@@ -1,4 +1,4 @@
-mod Years
+pub mod Years
 mod Months
 pub mod Unique
 pub mod Days

@@ -1,5 +1,5 @@
 -- The days of a run of years in closed form.
-use Rattle.std.proofs.Common.{◌≡◌, ℕ, zero, suc, ◌+◌, ◌-◌, ◌*◌, ◌/◌, ◌<◌, ◌≤◌, Bool, true, false, cond, not, ◌&&◌, ltb, sym, ap, ◌∙◌, subst, add-zero, add-suc, zero-add, arith, lit≤}
+use Rattle.std.proofs.Common.{◌≡◌, ℕ, zero, suc, ◌+◌, ◌-◌, ◌*◌, ◌/◌, ◌≤◌, Bool, true, false, cond, not, ◌&&◌, ltb, sym, ap, ◌∙◌, add-zero, add-suc, zero-add, arith, lit≤}
 use native.Mathlib.Nat.{add_right_comm}
 use Rattle.std.proofs.lemmas.Bool.Decides.{nat_tests}
 use Rattle.calendar.specs.Calendar.{leap, year_length, days_of_years, start_year}
@@ -31,34 +31,6 @@ back : (a r : ℕ) → a ≤ r → a + (r - a) ≡ r
 back a r g = omega arith
 
 -- the same from the start of a system to a year r of it
-since_start : (is1904 : Bool) (r : ℕ) → start_year is1904 ≤ r → days_of_years is1904 (start_year is1904) (r - start_year is1904) + (civil (start_year is1904) + extra is1904 (start_year is1904)) ≡ civil r + extra is1904 r
+pub since_start : (is1904 : Bool) (r : ℕ) → start_year is1904 ≤ r → days_of_years is1904 (start_year is1904) (r - start_year is1904) + (civil (start_year is1904) + extra is1904 (start_year is1904)) ≡ civil r + extra is1904 r
 since_start true r h = years_from true 1904 (r - 1904) (lit≤ tt) ∙ ap (λ (x : ℕ). civil x + extra true x) (back 1904 r h)
 since_start false r h = years_from false 1899 (r - 1899) (lit≤ tt) ∙ ap (λ (x : ℕ). civil x + extra false x) (back 1899 r h)
-
--- past day 366 of the 1900 system the year is 1901 or later
-late : (y d n : ℕ) → 1601 ≤ y → civil y + d ≡ n + 109205 → d < year_length (leap true y) → 366 < n → 1901 ≤ y
-late y d n h e l g = grind (arith, nat_tests)
-
--- from 1901 on the Gregorian rule alone tells leap years, and the one day more is counted
-late_leap : (y : ℕ) → 1901 ≤ y → leap false y ≡ leap true y
-late_leap y h = grind (arith, nat_tests)
-
-late_extra : (y : ℕ) → 1901 ≤ y → extra false y ≡ 1
-late_extra y h = grind (arith, nat_tests)
-
--- no day of the 1904 system lies before 1904
-early : (y d n : ℕ) → 1601 ≤ y → civil y + d ≡ n + 110667 → d < year_length (leap true y) → 1904 ≤ y
-early y d n h e l = grind (arith, nat_tests)
-
--- a year and a day of it, counted from 1601-01-01, as each system counts them
-module _ (y d n : ℕ) (low : 1601 ≤ y) (within : d < year_length (leap true y)) where
-  pub of_1904 : civil y + d ≡ n + 110667 → (days_of_years true 1904 (y - 1904) + d ≡ n + 0) × (d < year_length (leap true y)) × (1904 ≤ y)
-  of_1904 e = let a = early y d n low e within in let s = since_start true y a in (omega arith, within, a)
-
-  pub of_1900 : civil y + d ≡ n + 109205 → 366 < n → (days_of_years false 1899 (y - 1899) + d ≡ n + 364) × (d < year_length (leap false y)) × (1899 ≤ y)
-  of_1900 e g =
-      let a = late y d n low e within g in
-      let b : 1899 ≤ y = omega arith in
-      let s = since_start false y b in
-      let x = late_extra y a in
-      (omega arith, subst (λ (t : Bool). d < year_length t) (sym (late_leap y a)) within, b)

@@ -1,43 +1,67 @@
 // The milliseconds of a serial.
-ghost use Rattle.std.specs.Prelude.{◌≡◌, ℕ, ◌^◌, ◌<◌};
-ghost use Rattle.calendar.specs.Clock.{Under, whole_part, fraction_times, half_up, millis_since_start};
+ghost use Rattle.std.specs.Prelude.{◌≡◌, Bool, ◌^◌, ◌<◌, ◌&&◌, is_ok, nat_le, IfOk};
+ghost use Rattle.calendar.specs.Calendar.{last_day};
+ghost use Rattle.calendar.specs.Clock.{Under, Under-prop, whole_part, fraction_times, half_up, millis_since_start};
+ghost use Rattle.calendar.specs.Serial.{day_of, accepted};
 
+use crate::civil::DateFault;
 use std::num::saturating_f64_to_u64;
 
-fn whole_part(x: f64) -> u64
-    requires { Under x (2 ^ 32) }
-    ensures value { result ≡ whole_part x }
-    ensures bound { result < 2 ^ 32 }
-{
-    saturating_f64_to_u64(x)
+/// Every day of both systems lies before this serial.
+const END_OF_CALENDAR: f64 = 2_958_466.0;
+
+/// The time since some start, in days, seconds or milliseconds, with its fraction.
+#[derive(Clone, Copy)]
+pub(crate) struct Elapsed {
+    amount: f64,
+    ghost bounded: { Under amount (2 ^ 32) } by { Under-prop amount (2 ^ 32) },
 }
 
-/// The fraction of `x` times `units`. The fraction is exact, so the product alone is rounded.
-fn fraction_times(x: f64, units: u32) -> f64
-    requires under { Under x (2 ^ 32) }
-    requires small { units < 2 ^ 17 }
-    ensures value { result ≡ fraction_times x units }
-    ensures bound { Under result (2 ^ 18) }
-{
-    x.fract() * units as f64
-}
+impl Elapsed {
+    /// The days since day 0.
+    pub(crate) fn from_serial(serial: f64) -> Result<Elapsed, DateFault>
+        ensures accepts { (is1904 : Bool) → accepted is1904 serial ≡ (is_ok result && nat_le (day_of serial) (last_day is1904)) }
+        ensures counts { IfOk result (λ days. millis_since_start days.amount ≡ millis_since_start serial) }
+    {
+        // Not-a-number is not at least 0; minus zero is.
+        if !(serial >= 0.0) || serial >= END_OF_CALENDAR {
+            return Err(DateFault::OutsideCalendar);
+        }
+        Ok(Elapsed {
+            amount: serial.abs(),
+        })
+    }
 
-/// The nearest whole number, halves up.
-fn half_up(x: f64) -> u64
-    requires { Under x (2 ^ 32) }
-    ensures { result ≡ half_up x }
-{
-    saturating_f64_to_u64(x.round())
-}
+    fn whole_part(self) -> u64
+        ensures value { result ≡ whole_part self.amount }
+        ensures bound { result < 2 ^ 32 }
+    {
+        saturating_f64_to_u64(self.amount)
+    }
 
-/// All milliseconds since day 0. Counted together, 1,000 milliseconds carry to the second and 86,400 seconds to the day.
-pub(crate) fn millis_since_start(serial: f64) -> u64
-    requires { Under serial (2 ^ 32) }
-    ensures { result ≡ millis_since_start serial }
-{
-    let day = whole_part(serial);
-    let seconds = fraction_times(serial, 86_400);
-    let second = whole_part(seconds);
-    let milli = half_up(fraction_times(seconds, 1_000));
-    (day * 86_400 + second) * 1_000 + milli
+    /// The fraction in a unit of which so many make up one of these. The fraction is exact, so the product alone is rounded.
+    fn fraction_times(self, units: u32) -> Elapsed
+        ensures { result.amount ≡ fraction_times self.amount units }
+    {
+        Elapsed {
+            amount: self.amount.fract() * f64::from(units),
+        }
+    }
+
+    /// The nearest whole number, halves up.
+    fn half_up(self) -> u64
+        ensures value { result ≡ half_up self.amount }
+        ensures bound { result < 2 ^ 53 }
+    {
+        saturating_f64_to_u64(self.amount.round())
+    }
+
+    /// All milliseconds of these days. Counted together, 1,000 milliseconds carry to the second and 86,400 seconds to the day.
+    pub(crate) fn millis(self) -> u64
+        ensures { result ≡ millis_since_start self.amount }
+    {
+        let seconds = self.fraction_times(86_400);
+        let millis = seconds.fraction_times(1_000);
+        (self.whole_part() * 86_400 + seconds.whole_part()) * 1_000 + millis.half_up()
+    }
 }

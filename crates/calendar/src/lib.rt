@@ -8,13 +8,11 @@ ghost use Rattle.calendar.specs.Serial.{answer, Says};
 pub mod civil;
 mod clock;
 mod day;
+mod year;
 
 use civil::{CivilTime, DateFault};
-use clock::millis_since_start;
-use day::{date_of, last_day};
-
-/// Every day of both systems lies before this serial.
-const END_OF_CALENDAR: f64 = 2_958_466.0;
+use clock::Elapsed;
+use day::SerialDay;
 
 const MILLIS_IN_DAY: u64 = 86_400_000;
 
@@ -30,17 +28,11 @@ pub fn to_ymd_hms_milli(serial: f64, is_1904: bool) -> Result<CivilTime, DateFau
     ensures value { result ≡ answer is_1904 serial }
     ensures says { Says is_1904 serial result }
 {
-    // Not-a-number is not at least 0; minus zero is.
-    if !(serial >= 0.0) || serial >= END_OF_CALENDAR {
-        return Err(DateFault::OutsideCalendar);
-    }
-    let count = millis_since_start(serial.abs());
-    let day = count / MILLIS_IN_DAY;
-    if day > last_day(is_1904) as u64 {
-        return Err(DateFault::OutsideCalendar);
-    }
+    let count = Elapsed::from_serial(serial)?.millis();
+    let day = SerialDay::new(is_1904, count / MILLIS_IN_DAY)?;
+    // Each part of the time is a remainder that fits its field.
     Ok(CivilTime {
-        date: date_of(is_1904, day as u32),
+        date: day.date(),
         hour: (count / MILLIS_IN_HOUR % 24) as u8,
         minute: (count / MILLIS_IN_MINUTE % 60) as u8,
         second: (count / MILLIS_IN_SECOND % 60) as u8,
