@@ -1,6 +1,6 @@
 -- The whole part and the fraction of a float, each exact.
 use Rattle.std.proofs.Common.{◌≡◌, ℕ, zero, suc, ◌+◌, ◌-◌, ◌*◌, ◌/◌, ◌%◌, ◌^◌, ◌<◌, ◌≤◌, Bool, true, false, cond, ◌&&◌, T, eqb, ltb, leb, ℤ, pos, negsuc, sym, refl, ap, ◌∙◌, subst, inl, inr, true≢false, le_trans, le_of_eq, lt_of_lt_of_le, lt_of_le_of_lt, le_of_lt, mul-le-mul_right, mod-lt, zero-lt-suc, mul_assoc, mul_comm, div-lt_iff_lt-mul, add-mul, mul-lt-mul_of_pos_right, mul-pos, div-add-mod', mul-one, mul_right_comm, not-le_of_lt, arith, lit≤, le→leb, eqb→eq, ltb→lt, leb→le, pow_pos, pow_mono, pow-add}
-use native.Mathlib.Nat.{mod-le, mul-mul-mul_comm}
+use native.Mathlib.Nat.{mod-le, mod-one, sub-add_cancel, mul-mul-mul_comm}
 use Rattle.std.proofs.lemmas.Bool.{cases_lt}
 use Rattle.std.specs.Float as Floats
 use Rattle.std.specs.Float.{round_with}
@@ -99,17 +99,13 @@ deep (suc m) k t =
     let D = ltb (suc m * 1) (2 ^ 1024 * 2 ^ suc k) in
     (ltb→lt _ _ (and_r A B (and_l (A && B) C (and_l (A && B && C) D t))), shallow (suc k) (leb→le _ _ (and_r (A && B) C (and_l (A && B && C) D t))))
 
--- a whole number has no fraction
-no_rest : (a : ℕ) → a % 1 ≡ 0
-no_rest a = omega arith
-
 -- the fraction of a float is a float: rounding leaves it
 fraction_held : (x : Float) → T (fits binary64 x) → HasValue x false (num x) (den x) → HasValue (round binary64 false (num x % den x) (den x)) false (num x % den x) (den x)
 fraction_held nan t h = absurd h
 fraction_held (inf s) t h = absurd h
 fraction_held (fin true m e) t h = absurd (true≢false h.0)
 fraction_held (fin false m (pos k)) t h =
-    let z = no_rest (m * 2 ^ k) in
+    let z = mod-one (m * 2 ^ k) in
     round_exact binary64 false (m * 2 ^ k % 1) 1 0 0 (zero-lt-suc 0) (pow_pos 53) (pow_pos (1074 + 1024)) (ap (λ (y : ℕ). y * 2 ^ 1074) z)
 fraction_held (fin false m (negsuc k)) t h =
     let d = deep m k t in
@@ -117,13 +113,10 @@ fraction_held (fin false m (negsuc k)) t h =
     let q = m * 1 % D in
     let Q : q < 2 ^ 53 = lt_of_le_of_lt (le_trans (mod-le (m * 1) D) (le_of_eq (mul-one m))) d.0 in
     let j = 1074 - suc k in
-    let e : 2 ^ 1074 ≡ 2 ^ j * D = ap (λ (y : ℕ). 2 ^ y) (split (suc k) 1074 d.1) ∙ pow-add 2 j (suc k) in
+    let e : 2 ^ 1074 ≡ 2 ^ j * D = ap (λ (y : ℕ). 2 ^ y) (sym (sub-add_cancel d.1)) ∙ pow-add 2 j (suc k) in
     let top : q * 2 ^ j < 2 ^ (1074 + 1024) = lt_of_lt_of_le (mul-lt-mul_of_pos_right Q (pow_pos j)) (le_trans (le_of_eq (sym (pow-add 2 53 j))) (pow_mono (room j (suc k) d.1))) in
     round_exact binary64 false q D q j (pow_pos (suc k)) Q top (ap (λ (y : ℕ). q * y) e ∙ sym (mul_assoc q (2 ^ j) D))
   where
-    split : (i n : ℕ) → i ≤ n → n ≡ n - i + i
-    split i n g = omega arith
-
     room : (j i : ℕ) → i ≤ 1074 → 53 + (1074 - i) ≤ 1074 + 1024
     room j i g = omega arith
 

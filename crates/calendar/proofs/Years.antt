@@ -1,6 +1,6 @@
 -- The days of a run of years in closed form.
 use Rattle.std.proofs.Common.{◌≡◌, ℕ, zero, suc, ◌+◌, ◌-◌, ◌*◌, ◌/◌, ◌≤◌, Bool, true, false, cond, not, ◌&&◌, ltb, sym, ap, ◌∙◌, add-zero, add-suc, zero-add, arith, lit≤}
-use native.Mathlib.Nat.{add_right_comm}
+use native.Mathlib.Nat.{add_right_comm, add-sub_of_le}
 use Rattle.std.proofs.lemmas.Bool.Decides.{nat_tests}
 use Rattle.calendar.specs.Calendar.{leap, year_length, days_of_years, start_year}
 
@@ -26,11 +26,7 @@ years_from is1904 y (suc k) h =
     let r : days_of_years is1904 y k + year_length (leap is1904 (y + k)) + (civil y + extra is1904 y) ≡ civil (suc (y + k)) + extra is1904 (suc (y + k)) = add_right_comm _ _ _ ∙ ap (λ (x : ℕ). x + year_length (leap is1904 (y + k))) e ∙ s in
     r ∙ ap (λ (x : ℕ). civil x + extra is1904 x) (sym (add-suc y k))
 
--- what is taken off and put back
-back : (a r : ℕ) → a ≤ r → a + (r - a) ≡ r
-back a r g = omega arith
-
 -- the same from the start of a system to a year r of it
 pub since_start : (is1904 : Bool) (r : ℕ) → start_year is1904 ≤ r → days_of_years is1904 (start_year is1904) (r - start_year is1904) + (civil (start_year is1904) + extra is1904 (start_year is1904)) ≡ civil r + extra is1904 r
-since_start true r h = years_from true 1904 (r - 1904) (lit≤ tt) ∙ ap (λ (x : ℕ). civil x + extra true x) (back 1904 r h)
-since_start false r h = years_from false 1899 (r - 1899) (lit≤ tt) ∙ ap (λ (x : ℕ). civil x + extra false x) (back 1899 r h)
+since_start true r h = years_from true 1904 (r - 1904) (lit≤ tt) ∙ ap (λ (x : ℕ). civil x + extra true x) (add-sub_of_le h)
+since_start false r h = years_from false 1899 (r - 1899) (lit≤ tt) ∙ ap (λ (x : ℕ). civil x + extra false x) (add-sub_of_le h)
