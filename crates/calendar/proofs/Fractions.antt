@@ -131,8 +131,9 @@ trunc_value (fin false m d) u =
     round_whole binary64 false (m * up d / down d) (le_trans (le_of_lt l) (lit≤ tt))
 
 -- the whole part taken off, and one product: the fraction times k
-pub fraction_by : (x y : Float) (k : ℕ) → T (fits binary64 x) → Under x (2 ^ 32) → k ≤ 2 ^ 53 → y ≡ sub binary64 x (Floats.trunc binary64 x) → mul binary64 y (of_int binary64 (pos k)) ≡ fraction_times x k
-fraction_by x y k t u K e =
+pub fraction_by : (x y : Float) (k : ℕ) → fits binary64 x ≡ true → Under x (2 ^ 32) → k ≤ 2 ^ 53 → y ≡ sub binary64 x (Floats.trunc binary64 x) → mul binary64 y (of_int binary64 (pos k)) ≡ fraction_times x k
+fraction_by x y k f u K e =
+    let t : T (fits binary64 x) = subst T (sym f) tt in
     let s = less_whole x (Floats.trunc binary64 x) (whole_part x) u.0 (trunc_value x u) refl in
     let v = subst (λ (z : Float). HasValue z false (num x % den x) (den x)) (sym (e ∙ s)) (fraction_held x t u.0) in
     times binary64 y (of_int binary64 (pos k)) (num x % den x) (den x) k 1 (den_pos x) (zero-lt-suc 0) v (whole_value k K)
@@ -147,8 +148,8 @@ fraction_under x k bound K B =
     (b.0, lt_of_le_of_lt b.1 (mul-lt-mul_of_pos_right K (den_pos y)))
 
 -- and so for the product as the program has it
-pub fraction_by_under : (x y : Float) (k bound : ℕ) → T (fits binary64 x) → Under x (2 ^ 32) → k < bound → bound ≤ 2 ^ 53 → y ≡ sub binary64 x (Floats.trunc binary64 x) → Under (mul binary64 y (of_int binary64 (pos k))) bound
-fraction_by_under x y k bound t u K B e = subst (λ (z : Float). Under z bound) (sym (fraction_by x y k t u (le_trans (le_of_lt K) B) e)) (fraction_under x k bound K B)
+pub fraction_by_under : (x y : Float) (k bound : ℕ) → fits binary64 x ≡ true → Under x (2 ^ 32) → k < bound → bound ≤ 2 ^ 53 → y ≡ sub binary64 x (Floats.trunc binary64 x) → Under (mul binary64 y (of_int binary64 (pos k))) bound
+fraction_by_under x y k bound f u K B e = subst (λ (z : Float). Under z bound) (sym (fraction_by x y k f u (le_trans (le_of_lt K) B) e)) (fraction_under x k bound K B)
 
 -- a whole number below 2 ^ 53 comes back from its float
 half_back : (n : ℕ) → n < 2 ^ 53 → to_unsigned 64 (round binary64 false n 1) ≡ n

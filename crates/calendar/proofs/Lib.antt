@@ -3,6 +3,6 @@ mod Months
 pub mod Unique
 pub mod Days
 mod Rounding
-mod Fractions
-mod Acceptance
+pub mod Fractions
+pub mod Acceptance
 mod Replies

@@ -19,6 +19,7 @@ pub(crate) struct Elapsed {
 
 impl Elapsed {
     /// The days since day 0.
+    #[tactic(auto, using(crate::proofs::Acceptance::below_zero, crate::proofs::Acceptance::past_end, crate::proofs::Acceptance::by_day))]
     pub(crate) fn from_serial(serial: f64) -> Result<Elapsed, DateFault>
         ensures accepts { (is1904 : Bool) → accepted is1904 serial ≡ (is_ok result && nat_le (day_of serial) (last_day is1904)) }
         ensures counts { IfOk result (λ days. millis_since_start days.amount ≡ millis_since_start serial) }
@@ -32,6 +33,8 @@ impl Elapsed {
         })
     }
 
+    /// What is left without the fraction.
+    #[tactic(auto, using(crate::proofs::Fractions::whole_part_lem, crate::proofs::Fractions::whole_bound))]
     fn whole_part(self) -> u64
         ensures value { result ≡ whole_part self.amount }
         ensures bound { result < 2 ^ 32 }
@@ -39,7 +42,7 @@ impl Elapsed {
         saturating_f64_to_u64(self.amount)
     }
 
-    /// The fraction in a unit of which so many make up one of these. The fraction is exact, so the product alone is rounded.
+    /// The fraction in a smaller unit, of which `units` make one. The fraction is exact, so the product alone is rounded.
     fn fraction_times(self, units: u32) -> Elapsed
         ensures { result.amount ≡ fraction_times self.amount units }
     {
