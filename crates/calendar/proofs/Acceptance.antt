@@ -1,5 +1,5 @@
 -- Which serials are accepted, by the comparisons that the program makes.
-use Rattle.std.proofs.Common.{◌≡◌, ℕ, zero, suc, ◌*◌, ◌/◌, ◌^◌, ◌<◌, ◌≤◌, Bool, true, false, not, ◌&&◌, ◌||◌, eqb, leb, ℤ, sym, refl, ap, ◌∙◌, subst, true≢false, zero-lt-suc, mul-pos, le-div_iff_mul-le, zero-mul, mul-one, arith}
+use Rattle.std.proofs.Common.{◌≡◌, ℕ, zero, suc, ◌*◌, ◌/◌, ◌^◌, ◌<◌, ◌≤◌, Bool, true, false, not, ◌&&◌, ◌||◌, eqb, leb, ℤ, sym, refl, ap, ◌∙◌, true≢false, zero-lt-suc, mul-pos, le-div_iff_mul-le, zero-mul, mul-one, arith}
 use lib.Ieee.{Float, nan, inf, fin, binary64, up, down, le, of_bits}
 use lib.Ieee.Fits.{up_pos, down_pos}
 use Rattle.std.proofs.lemmas.Bool.Decides.{nat_tests}
@@ -80,22 +80,22 @@ unfolding le of_bits
 no_nan g = true≢false (sym g)
 
 -- between the two, the size of a serial is what the clock takes
-pub under : (x y : Float) → y ≡ float_with_sign false x → le naught x ≡ true → le end x ≡ false → Under y (2 ^ 32)
+pub under : (x : Float) → le naught x ≡ true → le end x ≡ false → Under (float_with_sign false x) (2 ^ 32)
 unfolding float_with_sign
-under nan y e g h = absurd (no_nan g)
-under (inf s) y e g h = absurd (no_infinity s g h)
-under (fin false m d) y e g h = subst (λ (z : Float). Under z (2 ^ 32)) (sym e) ((refl, refl), omega (arith, leb-false _ _ (sym (end_plus m d) ∙ h), down_pos d))
-under (fin true m d) y e g h =
+under nan g h = absurd (no_nan g)
+under (inf s) g h = absurd (no_infinity s g h)
+under (fin false m d) g h = ((refl, refl), omega (arith, leb-false _ _ (sym (end_plus m d) ∙ h), down_pos d))
+under (fin true m d) g h =
     let z : m ≡ 0 = eqb-true m 0 (sym (naught_minus m d) ∙ g) in
     let q : m * up d ≡ 0 = ap (λ (k : ℕ). k * up d) z ∙ zero-mul (up d) in
-    subst (λ (w : Float). Under w (2 ^ 32)) (sym e) ((refl, refl), omega (arith, down_pos d))
+    ((refl, refl), omega (arith, down_pos d))
 
 -- the sign does not matter to the milliseconds
-pub same_millis : (x y : Float) → y ≡ float_with_sign false x → millis_since_start y ≡ millis_since_start x
+pub same_millis : (x : Float) → millis_since_start (float_with_sign false x) ≡ millis_since_start x
 unfolding float_with_sign
-same_millis nan y e = ap millis_since_start e
-same_millis (inf s) y e = ap millis_since_start e
-same_millis (fin s m d) y e = ap millis_since_start e
+same_millis nan = refl
+same_millis (inf s) = refl
+same_millis (fin s m d) = refl
 
 -- between the two, the day after carrying decides
 pub by_day : (is1904 : Bool) (x : Float) → le naught x ≡ true → le end x ≡ false → accepted is1904 x ≡ leb (day_of x) (last_day is1904)

@@ -19,7 +19,7 @@ pub(crate) struct Elapsed {
 
 impl Elapsed {
     /// The days since day 0.
-    #[tactic(auto, using(crate::proofs::Acceptance::below_zero, crate::proofs::Acceptance::past_end, crate::proofs::Acceptance::by_day))]
+    #[tactic(auto, using(crate::proofs::Acceptance::by_day, crate::proofs::Acceptance::same_millis))]
     pub(crate) fn from_serial(serial: f64) -> Result<Elapsed, DateFault>
         ensures accepts { (is1904 : Bool) → accepted is1904 serial ≡ (is_ok result && nat_le (day_of serial) (last_day is1904)) }
         ensures counts { IfOk result (λ days. millis_since_start days.amount ≡ millis_since_start serial) }
