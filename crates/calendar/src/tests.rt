@@ -93,14 +93,13 @@ fn fields(time: CivilTime) -> [u16; 7] {
 fn month_edges(rt: HostRuntime) -> Result<(), Fail> {
     for (is_1904, year, first_day, lengths) in &YEARS {
         let mut first = *first_day;
-        for index in 0..12 {
+        for (index, length) in lengths.iter().enumerate() {
             let month = index as u16 + 1;
-            let length = lengths[index];
             let start = to_ymd_hms_milli(first, *is_1904)?;
             assert_eq!(rt; fields(start), [*year, month, 1, 0, 0, 0, 0]);
-            first += length as f64;
+            first += f64::from(*length);
             let end = to_ymd_hms_milli(first - 1.0, *is_1904)?;
-            assert_eq!(rt; fields(end), [*year, month, length, 0, 0, 0, 0]);
+            assert_eq!(rt; fields(end), [*year, month, *length, 0, 0, 0, 0]);
         }
     }
     Ok(())
