@@ -1,4 +1,5 @@
 pub mod Shapes
+pub mod Areas
 pub mod Making
 pub mod Sheets
 pub mod Walks

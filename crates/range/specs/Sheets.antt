@@ -3,6 +3,7 @@ use Rattle.std.specs.Prelude.{ℕ, ◌+◌, ◌-◌, ◌*◌, ◌/◌, ◌%◌, 
 use Rattle.std.specs.List.{slice_get, range_with_len}
 use Rattle.std.specs.Option.{option_map, unwrap_or}
 use Rattle.range.specs.Shapes.{rows_of, columns_of}
+use Rattle.range.specs.Areas.{corners_of}
 use Rattle.range.specs.declared.corners.Corners.{Corners}
 use Rattle.range.specs.declared.sheet.Range.{Range}
 
@@ -13,7 +14,7 @@ pub record Sheet (C : Type 0) : Type 0 where
   pub text : List ℕ
 
 abbrev pub sheet : {C : Type 0} → Range C → Sheet C
-sheet r = record { corners = r.corners; cells = r.cells.now; text = r.text.now }
+sheet r = record { corners = corners_of r.area; cells = r.cells.now; text = r.text.now }
 
 abbrev pub made_of : {C : Type 0} → Corners → List C → List ℕ → Sheet C
 made_of k cells text = record { corners = Some k; cells = cells; text = text }

@@ -1,6 +1,8 @@
 -- Rows and cells taken one after another, from the front or from the back.
-use Rattle.std.specs.Prelude.{◌≡◌, ℕ, zero, suc, ◌+◌, ◌/◌, ◌%◌, List, [], ◌∷◌, ◌++◌, take, drop, Some, None, Option}
+use Rattle.std.specs.Prelude.{ℕ, zero, suc, ◌+◌, ◌/◌, ◌%◌, List, [], ◌∷◌, length, take, drop}
 use Rattle.std.specs.Borrow.{Bor}
+use Rattle.std.specs.Iterator.Adapters.{enumerate_count, enumerate_source}
+use Rattle.std.specs.Slice.Iter.{iter_rest, chunks_exact_rest, chunks_exact_size}
 use Rattle.range.specs.Sheets.{Sheet, height, width}
 use Rattle.range.specs.declared.rows.Rows.{Rows}
 use Rattle.range.specs.declared.cells.Cells.{Cells}
@@ -13,8 +15,12 @@ cut_rows (suc rows) width cells = take width cells ∷ cut_rows rows width (drop
 abbrev pub rows_of_sheet : {C : Type 0} → Sheet C → List (List C)
 rows_of_sheet s = cut_rows (height s) (width s) s.cells
 
+-- as many rows of a width as the cells fill
+abbrev pub whole_rows : {C : Type 0} → ℕ → List C → List (List C)
+whole_rows width cells = cut_rows (length cells / width) width cells
+
 abbrev pub rows_left : {C : Type 0} → Rows C → List (List C)
-rows_left r = cut_rows r.left r.width r.cells.now
+rows_left r = whole_rows (chunks_exact_size r.rows) (chunks_exact_rest r.rows)
 
 -- cells with their row and column, from the cell at a place on
 abbrev pub numbered : {C : Type 0} → ℕ → ℕ → List C → List (ℕ × ℕ × C)
@@ -25,18 +31,8 @@ abbrev pub cells_of_sheet : {C : Type 0} → Sheet C → List (ℕ × ℕ × C)
 cells_of_sheet s = numbered (width s) 0 s.cells
 
 abbrev pub cells_left : {C : Type 0} → Cells C → List (ℕ × ℕ × C)
-cells_left r = numbered r.width r.place r.cells.now
+cells_left r = numbered r.width (enumerate_count r.cells) (iter_rest (enumerate_source r.cells))
 
 -- a cell as it is handed out, with what its reference points to
 abbrev pub cell_shown : {C : Type 0} → ℕ × ℕ × Bor C → ℕ × ℕ × C
 cell_shown x = (x.0, x.1, x.2.now)
-
--- the first is taken, and the others are left; or none was there
-abbrev pub FirstTaken : {A : Type 0} → List A → Option A → List A → Type 0
-FirstTaken before None after = (before ≡ []) × (after ≡ [])
-FirstTaken before (Some x) after = before ≡ x ∷ after
-
--- the last is taken
-abbrev pub LastTaken : {A : Type 0} → List A → Option A → List A → Type 0
-LastTaken before None after = (before ≡ []) × (after ≡ [])
-LastTaken before (Some x) after = before ≡ after ++ (x ∷ [])

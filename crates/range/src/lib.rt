@@ -2,6 +2,7 @@
 #![tactic(auto)]
 
 mod access;
+mod area;
 pub mod cells;
 pub mod corners;
 pub mod fault;

@@ -2,7 +2,7 @@
 ghost use Rattle.std.specs.Prelude.{◌≡◌};
 ghost use Rattle.range.specs.Sheets.{sheet, start_of, end_of, height, width, is_empty};
 
-use crate::making::span;
+use crate::area::Area;
 use crate::sheet::Range;
 
 impl<'a, T> Range<'a, T> {
@@ -10,40 +10,30 @@ impl<'a, T> Range<'a, T> {
     pub fn start(&self) -> Option<(u32, u32)>
         ensures { result ≡ start_of (sheet self.now) }
     {
-        match self.corners {
-            Some(corners) => Some((corners.first_row, corners.first_column)),
-            None => None,
-        }
+        self.area
+            .map(|area| (area.corners.first_row, area.corners.first_column))
     }
 
     /// The last row and column; none for the empty sheet.
     pub fn end(&self) -> Option<(u32, u32)>
         ensures { result ≡ end_of (sheet self.now) }
     {
-        match self.corners {
-            Some(corners) => Some((corners.last_row, corners.last_column)),
-            None => None,
-        }
+        self.area
+            .map(|area| (area.corners.last_row, area.corners.last_column))
     }
 
     /// How many columns there are.
     pub fn width(&self) -> usize
         ensures { result ≡ width (sheet self.now) }
     {
-        match self.corners {
-            Some(corners) => span(corners.first_column, corners.last_column),
-            None => 0,
-        }
+        self.area.map_or(0, Area::width)
     }
 
     /// How many rows there are.
     pub fn height(&self) -> usize
         ensures { result ≡ height (sheet self.now) }
     {
-        match self.corners {
-            Some(corners) => span(corners.first_row, corners.last_row),
-            None => 0,
-        }
+        self.area.map_or(0, Area::height)
     }
 
     /// Rows and columns.
@@ -57,7 +47,7 @@ impl<'a, T> Range<'a, T> {
     pub fn is_empty(&self) -> bool
         ensures { result ≡ is_empty (sheet self.now) }
     {
-        self.corners.is_none()
+        self.area.is_none()
     }
 
     /// The text that cells refer to.

@@ -1,42 +1,34 @@
 // A part of a sheet, or a larger sheet around it, copied into the caller's store.
 ghost use Rattle.std.specs.Prelude.{◌≡◌, ◌*◌, ◌<◌, ◌≤◌, true, false, ◌++◌, length, drop, is_ok, IfOk};
 ghost use Rattle.questions.specs.Questions.{refusal_of};
-ghost use Rattle.range.specs.Shapes.{ordered, limited, rows_of, columns_of};
+ghost use Rattle.range.specs.Shapes.{rows_of, columns_of};
 ghost use Rattle.range.specs.Making.{told, copying};
 ghost use Rattle.range.specs.Sheets.{sheet, part_cell, part_cells};
 
+use crate::area::Area;
 use crate::corners::Corners;
 use crate::fault::RangeFault;
-use crate::making::span;
 use crate::sheet::Range;
 
 impl<'a, T: Copy> Range<'a, T> {
     /// The cell that stands at a place of the part, row after row.
-    fn cell_or(&self, corners: Corners, empty: T, place: usize) -> T
-        requires ordered { ordered corners ≡ true }
-        requires limited { limited corners ≡ true }
-        requires within { place < rows_of corners * columns_of corners }
-        ensures { result ≡ part_cell (sheet self.now) corners empty place }
+    fn cell_or(&self, part: Area, empty: T, place: usize) -> T
+        requires { place < rows_of part.corners * columns_of part.corners }
+        ensures { result ≡ part_cell (sheet self.now) part.corners empty place }
     {
-        let columns = span(corners.first_column, corners.last_column);
-        let row = corners.first_row + (place / columns) as u32;
-        let column = corners.first_column + (place % columns) as u32;
-        match self.get_value((row, column)) {
-            Some(cell) => *cell,
-            None => empty,
-        }
+        let row = part.corners.first_row + (place / part.width()) as u32;
+        let column = part.corners.first_column + (place % part.width()) as u32;
+        self.get_value((row, column)).copied().unwrap_or(empty)
     }
 
     /// Each cell of the part to its place in the front of the store.
-    fn copy_cells(&self, corners: Corners, count: usize, empty: T, store: &mut [T])
-        requires count { count ≡ rows_of corners * columns_of corners }
-        requires ordered { ordered corners ≡ true }
-        requires limited { limited corners ≡ true }
-        requires room { count ≤ length store.old }
-        ensures { store.new ≡ part_cells (sheet self.now) corners empty ++ drop (rows_of corners * columns_of corners) store.old }
+    fn copy_cells(&self, part: Area, empty: T, store: &mut [T])
+        requires { rows_of part.corners * columns_of part.corners ≤ length store.old }
+        ensures { store.new ≡ part_cells (sheet self.now) part.corners empty ++ drop (rows_of part.corners * columns_of part.corners) store.old }
     {
-        for place in 0..count {
-            store[place] = self.cell_or(corners, empty, place);
+        // By place, since adapters of `iter_mut` tell nothing of what stands in the store afterwards.
+        for place in 0..part.cell_count() {
+            store[place] = self.cell_or(part, empty, place);
         }
     }
 
@@ -53,11 +45,11 @@ impl<'a, T: Copy> Range<'a, T> {
         ensures copied { is_ok result ≡ true → store.new ≡ part_cells (sheet self.now) corners empty ++ drop (rows_of corners * columns_of corners) store.old }
         ensures kept { is_ok result ≡ false → store.new ≡ store.old }
     {
-        let count = corners.cell_count()?;
-        if store.len() < count {
+        let part = Area::new(corners)?;
+        if store.len() < part.cell_count() {
             return Err(RangeFault::StoreShort);
         }
-        self.copy_cells(corners, count, empty, store);
-        Ok(count)
+        self.copy_cells(part, empty, store);
+        Ok(part.cell_count())
     }
 }

@@ -1,10 +1,9 @@
 // A sheet cell after cell, without the empty ones, from the front or from the back.
-ghost use Rattle.std.specs.Prelude.{◌≡◌, length};
-ghost use Rattle.std.specs.Option.{option_map};
+ghost use Rattle.std.specs.Prelude.{◌≡◌};
+ghost use Rattle.std.specs.Iterator.{YieldsFirstBy, YieldsLastBy, item_count};
 ghost use Rattle.range.specs.Sheets.{sheet};
-ghost use Rattle.range.specs.Walks.{cells_of_sheet, FirstTaken, LastTaken, cell_shown};
+ghost use Rattle.range.specs.Walks.{cells_of_sheet, cell_shown};
 ghost use Rattle.range.specs.Used.{used_only, empty_over, used_left};
-ghost use Rattle.std.specs.Iterator.{at_most};
 
 use crate::sheet::Range;
 use crate::used_cells::UsedCells;
@@ -26,29 +25,21 @@ impl<'a, T: Cell> Range<'a, T> {
 impl<'a, T: Cell> Iterator for UsedCells<'a, T> {
     type Item = (usize, usize, &'a T);
 
-    ghost next_gives = { λ before r after. FirstTaken (used_left T.Cell.meaning before) (option_map cell_shown r) (used_left T.Cell.meaning after) };
+    ghost next_gives = { YieldsFirstBy cell_shown (used_left T.Cell.meaning) };
 
-    ghost remaining = { λ walk. at_most (length walk.cells.cells.now) };
+    ghost remaining = { item_count (used_left T.Cell.meaning) };
 
     fn next(&mut self) -> Option<(usize, usize, &'a T)> {
-        while let Some((row, column, front)) = self.cells.next() {
-            if !front.is_empty(self.text) {
-                return Some((row, column, front));
-            }
-        }
-        None
+        let text = self.text;
+        self.cells.find(|(_, _, cell)| !cell.is_empty(text))
     }
 }
 
 impl<'a, T: Cell> DoubleEndedIterator for UsedCells<'a, T> {
-    ghost next_back_gives = { λ before r after. LastTaken (used_left T.Cell.meaning before) (option_map cell_shown r) (used_left T.Cell.meaning after) };
+    ghost next_back_gives = { YieldsLastBy cell_shown (used_left T.Cell.meaning) };
 
     fn next_back(&mut self) -> Option<(usize, usize, &'a T)> {
-        while let Some((row, column, back)) = self.cells.next_back() {
-            if !back.is_empty(self.text) {
-                return Some((row, column, back));
-            }
-        }
-        None
+        let text = self.text;
+        self.cells.rfind(|(_, _, cell)| !cell.is_empty(text))
     }
 }

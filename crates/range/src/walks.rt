@@ -1,10 +1,9 @@
 // A sheet row after row, or cell after cell, from the front or from the back.
 ghost use Rattle.std.specs.Prelude.{◌≡◌, ℕ, ◌*◌, length, Some};
-ghost use Rattle.std.specs.Option.{option_map};
-ghost use Rattle.range.specs.Sheets.{sheet, height, width, row_at, cell_at};
+ghost use Rattle.std.specs.Iterator.{YieldsFirstBy, YieldsFirstRef, YieldsLastBy, YieldsLastRef, item_count};
 ghost use Rattle.std.specs.List.{slice_get};
-ghost use Rattle.range.specs.Walks.{rows_left, rows_of_sheet, cells_left, cells_of_sheet, FirstTaken, LastTaken, cell_shown};
-ghost use Rattle.std.specs.Iterator.{at_most};
+ghost use Rattle.range.specs.Sheets.{sheet, height, width, row_at, cell_at};
+ghost use Rattle.range.specs.Walks.{rows_left, rows_of_sheet, cells_left, cells_of_sheet, cell_shown};
 
 use crate::cells::Cells;
 use crate::rows::Rows;
@@ -16,11 +15,9 @@ impl<'a, T> Range<'a, T> {
         ensures all { rows_left result ≡ rows_of_sheet (sheet self.now) }
         ensures rows { (k : ℕ) → slice_get (rows_left result) k ≡ row_at (sheet self.now) k }
     {
-        let (left, width) = self.get_size();
+        // The empty sheet has no cells to cut, and any width but 0 will do.
         Rows {
-            cells: self.cells,
-            width,
-            left,
+            rows: self.cells.chunks_exact(self.width().max(1)),
         }
     }
 
@@ -31,9 +28,8 @@ impl<'a, T> Range<'a, T> {
         ensures places { (k row column : ℕ) (c : T) → slice_get (cells_left result) k ≡ Some (row, column, c) → cell_at (sheet self.now) row column ≡ Some c }
     {
         Cells {
-            cells: self.cells,
+            cells: self.cells.iter().enumerate(),
             width: self.width(),
-            place: 0,
         }
     }
 }
@@ -41,86 +37,48 @@ impl<'a, T> Range<'a, T> {
 impl<'a, T> Iterator for Rows<'a, T> {
     type Item = &'a [T];
 
-    ghost next_gives = { λ before r after. FirstTaken (rows_left before) (option_map (λ x. x.now) r) (rows_left after) };
+    ghost next_gives = { YieldsFirstRef rows_left };
 
-    ghost remaining = { λ rows. at_most rows.left };
+    ghost remaining = { item_count rows_left };
 
     fn next(&mut self) -> Option<&'a [T]> {
-        if self.left == 0 {
-            return None;
-        }
-        let (row, rest) = self.cells.split_at(self.width);
-        *self = Rows {
-            cells: rest,
-            width: self.width,
-            left: self.left - 1,
-        };
-        Some(row)
+        self.rows.next()
     }
 }
 
 impl<'a, T> DoubleEndedIterator for Rows<'a, T> {
-    ghost next_back_gives = { λ before r after. LastTaken (rows_left before) (option_map (λ x. x.now) r) (rows_left after) };
+    ghost next_back_gives = { YieldsLastRef rows_left };
 
     fn next_back(&mut self) -> Option<&'a [T]> {
-        if self.left == 0 {
-            return None;
-        }
-        let before = self.cells.len() - self.width;
-        let (rest, row) = self.cells.split_at(before);
-        *self = Rows {
-            cells: rest,
-            width: self.width,
-            left: self.left - 1,
-        };
-        Some(row)
+        self.rows.next_back()
     }
 }
 
 impl<'a, T> ExactSizeIterator for Rows<'a, T> {
     fn len(&self) -> usize {
-        self.left
+        self.rows.len()
     }
 }
 
 impl<'a, T> Iterator for Cells<'a, T> {
     type Item = (usize, usize, &'a T);
 
-    ghost next_gives = { λ before r after. FirstTaken (cells_left before) (option_map cell_shown r) (cells_left after) };
+    ghost next_gives = { YieldsFirstBy cell_shown cells_left };
 
-    ghost remaining = { λ walk. at_most (length walk.cells.now) };
+    ghost remaining = { item_count cells_left };
 
     fn next(&mut self) -> Option<(usize, usize, &'a T)> {
-        if self.cells.is_empty() {
-            return None;
-        }
-        let place = self.place;
-        let (front, rest) = self.cells.split_at(1);
-        *self = Cells {
-            cells: rest,
-            width: self.width,
-            place: place + 1,
-        };
-        Some((place / self.width, place % self.width, &front[0]))
+        let (place, front) = self.cells.next()?;
+        Some((place / self.width, place % self.width, front))
     }
 }
 
 impl<'a, T> DoubleEndedIterator for Cells<'a, T> {
-    ghost next_back_gives = { λ before r after. LastTaken (cells_left before) (option_map cell_shown r) (cells_left after) };
+    ghost next_back_gives = { YieldsLastBy cell_shown cells_left };
 
     fn next_back(&mut self) -> Option<(usize, usize, &'a T)> {
-        if self.cells.is_empty() {
-            return None;
-        }
-        let before = self.cells.len() - 1;
-        let place = self.place + before;
-        let (rest, back) = self.cells.split_at(before);
-        *self = Cells {
-            cells: rest,
-            width: self.width,
-            place: self.place,
-        };
-        Some((place / self.width, place % self.width, &back[0]))
+        let (place, back) = self.cells.next_back()?;
+        Some((place / self.width, place % self.width, back))
     }
 }
 

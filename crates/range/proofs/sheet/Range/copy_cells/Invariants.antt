@@ -6,5 +6,5 @@ use Rattle.range.proofs.sheet.Range.copy_cells.Given as goal
 -- the cells so far stand in the front, and the rest of the store is as it was
 abbrev pub invariant-loop-place : goal.invariant-loop-place
 invariant-loop-place g l =
-    (take l.place l.store ≡ map (part_cell (sheet l.self) l.corners l.empty) (range_with_len 0 l.place))
+    (take l.place l.store ≡ map (part_cell (sheet l.self) l.part.corners l.empty) (range_with_len 0 l.place))
     × (drop l.place l.store ≡ drop l.place l.initial.store)

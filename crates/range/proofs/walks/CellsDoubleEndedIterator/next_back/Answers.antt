@@ -1,19 +1,19 @@
-use Rattle.std.proofs.Common.{◌≡◌, length, sym, refl, arith, rules}
-use Rattle.std.proofs.lemmas.Bool.{eqb-true, eqb-false}
-use Rattle.range.proofs.Taking.{none_left, last_cell}
+use Rattle.std.proofs.Common.{◌/◌, ◌%◌, [], ◌∷◌, ◌++◌, Some, sym, ap, ◌∙◌}
+use Rattle.std.specs.Iterator.Adapters.{enumerate_count, enumerate_source}
+use Rattle.std.specs.Slice.Iter.{iter_rest}
+use Rattle.range.specs.Walks.{cells_left, cell_shown, numbered}
+use Rattle.range.proofs.Taking.{last_cell, last_progress}
 use Rattle.range.proofs.walks.CellsDoubleEndedIterator.next_back.Goals as goal
-
-pub returns-then-is_empty : goal.returns-then-is_empty
-returns-then-is_empty g c =
-    let walk = c.args.self.now in
-    let none = none_left walk.width walk.place walk.cells.now (eqb-true _ 0 (sym c.if-is_empty.ensures)) in
-    record { steps = (none, none); goes = search rules }
 
 pub returns : goal.returns
 returns g c =
     let walk = c.args.self.now in
-    let some : length walk.cells.now ≡ 0 → ⊥ = eqb-false _ 0 (sym c.if-is_empty.ensures) in
-    record {
-      steps = last_cell walk.width walk.place walk.cells.now _ _ _ _ _ _ c.split_at.ensures.front c.split_at.ensures.back c.split_at.ensures.front_len (omega (arith, some, c.split_at.ensures.back_len)) refl refl c.index-back-0.is;
-      goes = search rules;
-    }
+    let place = c.in_ok-place.place in
+    let cell = c.in_ok-place.back in
+    let told = c.in_ok-place.ensures.steps in
+    let left = iter_rest (enumerate_source c.next_back.new.self) in
+    let first = enumerate_count walk.cells in
+    let taken =
+    last_cell walk.width first place (iter_rest (enumerate_source walk.cells)) left cell.now told.1.0 told.1.1
+    ∙ ap (λ n. numbered walk.width n left ++ ((place / walk.width, place % walk.width, cell.now) ∷ [])) (sym told.0) in
+    record { steps = taken; goes = last_progress cell_shown cells_left _ (λ s. tt) _ _ (Some (place / walk.width, place % walk.width, cell)) taken }

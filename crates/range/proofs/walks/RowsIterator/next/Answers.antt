@@ -1,17 +1,15 @@
-use Rattle.std.proofs.Common.{length, arith, rules}
-use Rattle.range.proofs.Places.{row_fits}
-use Rattle.range.proofs.Taking.{first_row_cut}
+use Rattle.range.specs.Walks.{rows_left}
+use Rattle.range.proofs.Taking.{first_cut, first_progress}
 use Rattle.range.proofs.walks.RowsIterator.next.Goals as goal
 
-pub split_at-requires : goal.split_at-requires
-split_at-requires g c =
+pub invariant_of-self : goal.invariant_of-self
+invariant_of-self g c =
     let rows = c.args.self.now in
-    omega (arith, row_fits rows.left rows.width (length rows.cells.now) (omega arith) rows.whole)
+    let filled = (first_cut rows.rows c.next.new.self c.next.result (rows.wide, rows.whole) c.next.ensures.steps).1 in
+    record { wide = filled.0; whole = filled.1 }
 
 pub returns : goal.returns
 returns g c =
     let rows = c.args.self.now in
-    record {
-      steps = first_row_cut rows.left rows.width rows.cells.now _ _ (omega arith) c.split_at.ensures.front c.split_at.ensures.back;
-      goes = search rules;
-    }
+    let taken = (first_cut rows.rows c.next.new.self c.next.result (rows.wide, rows.whole) c.next.ensures.steps).0 in
+    record { steps = taken; goes = first_progress (λ x. x.now) rows_left _ (λ s. tt) _ _ c.next.result taken }
