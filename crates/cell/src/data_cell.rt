@@ -17,16 +17,8 @@ fn sound_part(part: TextPart, text: &[u8]) -> Option<TextValue<'_>>
     ensures lies { IfSome result (λ t. StandsAt text.now t.place t.bytes.now) }
 {
     let place = part.place as usize;
-    let end = place + part.len as usize;
-    if end > text.len() {
-        return None;
-    }
-    let bytes = &text[place..end];
-    if is_utf8(bytes) {
-        Some(TextValue { place, bytes })
-    } else {
-        None
-    }
+    let bytes = text.get(place..place + part.len as usize)?;
+    is_utf8(bytes).then_some(TextValue { place, bytes })
 }
 
 impl Cell for Data {
@@ -42,20 +34,17 @@ impl Cell for Data {
         match *self {
             Data::Int(whole) => Value::Int(whole),
             Data::Float(bits) => Value::Float(float_of_bits(bits)),
-            Data::String(part) => match sound_part(part, text) {
-                Some(text) => Value::String(text),
-                None => Value::Unsound,
-            },
+            Data::String(part) => sound_part(part, text).map_or(Value::Unsound, Value::String),
             Data::Bool(yes) => Value::Bool(yes),
             Data::DateTime(serial) => Value::DateTime(serial),
-            Data::DateTimeIso(part) => match sound_part(part, text) {
-                Some(text) => Value::DateTimeIso(text),
-                None => Value::Unsound,
-            },
-            Data::DurationIso(part) => match sound_part(part, text) {
-                Some(text) => Value::DurationIso(text),
-                None => Value::Unsound,
-            },
+            Data::DateTimeIso(part) => sound_part(part, text).map_or(
+                Value::Unsound,
+                Value::DateTimeIso,
+            ),
+            Data::DurationIso(part) => sound_part(part, text).map_or(
+                Value::Unsound,
+                Value::DurationIso,
+            ),
             Data::Error(error) => Value::Error(error),
             Data::Empty => Value::Empty,
         }

@@ -30,19 +30,17 @@ pub fn text_form(value: Value<'_>) -> Result<TextForm<'_>, CoercionFault>
     ensures form { answered form_bytes told result ≡ text_form (shown value.entry) }
     ensures place { IfOk result (λ form. form_place form ≡ place_of_text value.entry) }
 {
-    match value {
-        Value::String(text) => Ok(TextForm::Lent(text)),
-        Value::DateTimeIso(text) => Ok(TextForm::Lent(text)),
-        Value::DurationIso(text) => Ok(TextForm::Lent(text)),
-        Value::Int(whole) => Ok(TextForm::Printed(print_whole(whole))),
-        Value::Float(float) => match print_float(float) {
-            Some(printed) => Ok(TextForm::Printed(printed)),
-            None => Err(CoercionFault::NoTextForm),
-        },
-        Value::Bool(yes) => Ok(TextForm::Printed(print_bool(yes))),
-        Value::Empty => Ok(TextForm::Printed(Printed::empty())),
-        Value::DateTime(_) => Err(CoercionFault::NoTextForm),
-        Value::Error(error) => Err(CoercionFault::CellError(error)),
-        Value::Unsound => Err(CoercionFault::WrongKind),
-    }
+    let printed = match value {
+        Value::String(text) | Value::DateTimeIso(text) | Value::DurationIso(text) => {
+            return Ok(TextForm::Lent(text));
+        }
+        Value::Int(whole) => print_whole(whole),
+        Value::Float(float) => print_float(float).ok_or(CoercionFault::NoTextForm)?,
+        Value::Bool(yes) => print_bool(yes),
+        Value::Empty => Printed::empty(),
+        Value::DateTime(_) => return Err(CoercionFault::NoTextForm),
+        Value::Error(error) => return Err(CoercionFault::CellError(error)),
+        Value::Unsound => return Err(CoercionFault::WrongKind),
+    };
+    Ok(TextForm::Printed(printed))
 }
