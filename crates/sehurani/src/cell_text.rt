@@ -38,15 +38,11 @@ pub(crate) struct CellText<'a> {
 impl CellText<'_> {
     /// A text by its part of the sheet's text, or that it leaves it.
     fn write_part<W: fmt::Write>(&self, part: TextPart, f: &mut fmt::Formatter<W>) -> fmt::Result {
-        let start = part.place as usize;
-        let end = start + part.len as usize;
-        if end <= self.text.len() {
-            let quoted = Quoted(&self.text[start..end]);
-            write!(f, "{quoted}")
-        } else {
-            let place = part.place;
-            let len = part.len;
-            write!(f, "leaves the text: place {place}, length {len}")
+        let TextPart { place, len } = part;
+        let start = place as usize;
+        match self.text.get(start..start + len as usize) {
+            Some(bytes) => write!(f, "{}", Quoted(bytes)),
+            None => write!(f, "leaves the text: place {place}, length {len}"),
         }
     }
 }

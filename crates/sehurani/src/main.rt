@@ -6,22 +6,11 @@ mod command;
 mod refusal;
 mod show;
 
-use command::{Outcome, run_words};
+use command::run_words;
 use std::env;
 use std::process::ExitCode;
 
-fn run(rt: &HostRuntime) -> anyhow::Result<Outcome> {
-    let heap = rt.alloc();
-    let mut words = Vec::new(heap);
-    for word in env::args(rt)?.skip(1) {
-        words.push(word)?;
-    }
-    run_words(rt, words.as_slice())
-}
-
 fn main(rt: HostRuntime) -> anyhow::Result<ExitCode> {
-    match run(&rt)? {
-        Outcome::Done => Ok(ExitCode::SUCCESS),
-        Outcome::Refused => Ok(ExitCode::FAILURE),
-    }
+    let words: Vec<String> = env::args(&rt)?.skip(1).collect(rt.alloc())?;
+    run_words(&rt, words.as_slice())
 }

@@ -1,13 +1,13 @@
 // Prints a sheet file, row by row.
 use crate::cell_text::CellText;
-use crate::command::Outcome;
 use crate::refusal::Refusal;
 use datatype::data::Data;
 use range::sheet::Range;
 use sheetfile::sheet_file::read_sheet;
+use std::process::ExitCode;
 use std::{fs, io};
 
-pub(crate) fn show(rt: &HostRuntime, path: &str) -> anyhow::Result<Outcome> {
+pub(crate) fn show(rt: &HostRuntime, path: &str) -> anyhow::Result<ExitCode> {
     let heap = rt.alloc();
     let file = fs::read(rt, path)?;
     // a cell has nine bytes, so no file has more cells than this
@@ -16,41 +16,29 @@ pub(crate) fn show(rt: &HostRuntime, path: &str) -> anyhow::Result<Outcome> {
     match read_sheet(&mut range, file.as_slice(), store.as_mut_slice()) {
         Ok(()) => {
             print_sheet(rt, &range)?;
-            Ok(Outcome::Done)
+            Ok(ExitCode::SUCCESS)
         }
         Err(refused) => {
             rt.println(Refusal(refused.fault))?;
-            Ok(Outcome::Refused)
+            Ok(ExitCode::FAILURE)
         }
     }
 }
 
 fn print_sheet(rt: &HostRuntime, range: &Range<Data>) -> io::Result<()> {
-    print_shape(rt, range)?;
-    let mut number = match range.start() {
-        Some((first_row, _)) => first_row,
-        None => 0,
-    };
-    for row in range.rows() {
+    match range.start().zip(range.end()) {
+        Some(((first_row, first_column), (last_row, last_column))) => println!(rt;
+            "sheet: rows {first_row} to {last_row}, columns {first_column} to {last_column}"
+        )?,
+        None => println!(rt; "sheet: empty")?,
+    }
+    let first_row = range.start().map_or(0, |(row, _)| row);
+    for (number, row) in (first_row..).zip(range.rows()) {
         print_row(rt, number, row, range.text())?;
-        number = number.saturating_add(1);
     }
     let rows = range.height();
     let cells = range.cells().len();
     println!(rt; "rows shown: {rows}, cells shown: {cells}")
-}
-
-fn print_shape(rt: &HostRuntime, range: &Range<Data>) -> io::Result<()> {
-    if let (Some((first_row, first_column)), Some((last_row, last_column))) = (
-        range.start(),
-        range.end(),
-    ) {
-        println!(rt;
-            "sheet: rows {first_row} to {last_row}, columns {first_column} to {last_column}"
-        )
-    } else {
-        println!(rt; "sheet: empty")
-    }
 }
 
 fn print_row(rt: &HostRuntime, number: u32, row: &[Data], text: &[u8]) -> io::Result<()> {
