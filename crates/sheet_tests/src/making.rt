@@ -46,6 +46,29 @@ fn questions(rt: HostRuntime) {
 }
 
 #[test]
+fn from_parts(rt: HostRuntime) {
+    let cells = [0u8; 8];
+    for (first_row, first_column, last_row, last_column, count, refused) in CASES {
+        let corners = Corners {
+            first_row,
+            first_column,
+            last_row,
+            last_column,
+        };
+        let (given, _) = cells.split_at(count.min(8));
+        match Range::from_parts(corners, given, b"text") {
+            Ok(range) => {
+                assert_eq!(rt; refused, 0);
+                assert_eq!(rt; range.start(), Some((first_row, first_column)));
+                assert_eq!(rt; range.cells().len(), count);
+                assert!(rt; range.text() == b"text".as_slice());
+            }
+            Err(fault) => assert_eq!(rt; fault.number(), refused),
+        }
+    }
+}
+
+#[test]
 fn counts(rt: HostRuntime) {
     // 2^34 cells: no product of 32 bits holds them
     let whole = Corners {
