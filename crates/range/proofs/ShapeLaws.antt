@@ -1,7 +1,6 @@
 -- What the shape of a sheet gives.
-use Rattle.std.proofs.Common.{◌≡◌, ℕ, ◌+◌, ◌*◌, ◌/◌, ◌<◌, ◌≤◌, true, ◌&&◌, leb, Some, None, Option, sym, ap, ◌∙◌, subst, mul-le-mul_left, arith}
+use Rattle.std.proofs.Common.{◌≡◌, ℕ, ◌*◌, true, ◌&&◌, leb, Some, None, Option, sym, ap, ◌∙◌}
 use Rattle.std.proofs.lemmas.Bool.{eqb-true, leb-true, le-leb, and_parts, and_from}
-use Rattle.std.proofs.lemmas.Nat.{div_below}
 use Rattle.range.specs.declared.corners.Corners.{Corners}
 use Rattle.range.specs.Shapes.{Lawful, shaped, ordered, limited, counted, rows_of, columns_of}
 use Rattle.range.specs.Sheets.{by_corners}
@@ -11,24 +10,9 @@ pub grid_count : (o : Option Corners) (count : ℕ) → shaped o count ≡ true 
 grid_count None count h = eqb-true count 0 h
 grid_count (Some k) count h = eqb-true count (rows_of k * columns_of k) (and_parts (ordered k && limited k) (counted k count) h).1
 
--- the row of a place in a part lies within the part's rows, and so below the limit of rows
-pub row_limit : (k : Corners) (place columns : ℕ) → ordered k ≡ true → limited k ≡ true → columns ≡ columns_of k → place < rows_of k * columns_of k → k.first_row + place / columns < 1048576
-row_limit k place columns o l e within =
-    let first = leb-true k.first_row k.last_row (and_parts (leb k.first_row k.last_row) (leb k.first_column k.last_column) o).0 in
-    let last = leb-true k.last_row 1048575 (and_parts (leb k.last_row 1048575) (leb k.last_column 16383) l).0 in
-    let fits : place < rows_of k * columns = subst (λ n. place < rows_of k * n) (sym e) within in
-    let row = div_below place columns (rows_of k) (omega arith) fits in
-    omega (arith, first, last, row)
-
 -- the count by a size that was told as a pair
 pub sized_so : (size : ℕ × ℕ) (rows columns count : ℕ) → size ≡ (rows, columns) → count ≡ rows * columns → count ≡ size.0 * size.1
 sized_so size rows columns count e is = is ∙ sym (ap (λ (p : ℕ × ℕ). p.0 * p.1) e)
-
--- within the limits of a sheet there are at most 2 ^ 34 cells
-pub product_bound : (rows columns : ℕ) → rows ≤ 1048576 → columns ≤ 16384 → rows * columns ≤ 17179869184
-product_bound rows columns tall wide =
-    let across : rows * columns ≤ rows * 16384 = mul-le-mul_left rows wide in
-    omega (arith, across)
 
 -- the facts of lawful corners as tests, and back
 pub lawful_tests : (k : Corners) (count : ℕ) → Lawful k count → (ordered k ≡ true) × (limited k ≡ true)

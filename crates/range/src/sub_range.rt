@@ -26,9 +26,8 @@ impl<'a, T: Copy> Range<'a, T> {
         requires { rows_of part.corners * columns_of part.corners ≤ length store.old }
         ensures { store.new ≡ part_cells (sheet self.now) part.corners empty ++ drop (rows_of part.corners * columns_of part.corners) store.old }
     {
-        // By place, since adapters of `iter_mut` tell nothing of what stands in the store afterwards.
-        for place in 0..part.cell_count() {
-            store[place] = self.cell_or(part, empty, place);
+        for (place, entry) in store[..part.cell_count()].iter_mut().enumerate() {
+            *entry = self.cell_or(part, empty, place);
         }
     }
 
