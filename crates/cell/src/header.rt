@@ -26,6 +26,7 @@ impl Fault for HeaderFault {
     }
 }
 
+// Written out: a derived `From` has no contract, and clauses name the fault that `?` makes.
 impl From<CoercionFault> for HeaderFault {
     ghost from_gives = { λ refused fault. fault ≡ Refused refused };
 

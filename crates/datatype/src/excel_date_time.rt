@@ -9,9 +9,9 @@ pub enum ExcelDateTimeType {
 
 #[derive(Clone, Copy, PartialEq, Eq, Debug)]
 pub struct ExcelDateTime {
-    /// the 64 bits of the serial, a binary64 float
+    /// the 64 bits of the serial, a binary64 float, so that cells are compared exactly
     pub bits: u64,
     pub datetime_type: ExcelDateTimeType,
-    /// counted from 1904-01-01, and not from 1900
+    /// counted from 1904-01-01, and not from 1900; a flag, as calamine has it
     pub is_1904: bool,
 }

@@ -20,6 +20,8 @@ impl ExcelDateTime {
         }
     }
 
+    // Two names of one question, as calamine has them.
+
     /// Whether it is a length of time.
     pub fn is_duration(&self) -> bool
         ensures { result ≡ is_duration self.now }

@@ -5,6 +5,7 @@ ghost use Rattle.datatype.specs.Errors.{error_text};
 use crate::cell_error_type::CellErrorType;
 use std::fmt;
 
+// Written out: a derived `Display` states no text.
 impl fmt::Display for CellErrorType {
     ghost output = { λ e. Some (error_text e) };
 

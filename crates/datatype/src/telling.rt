@@ -22,6 +22,7 @@ impl Fault for CoercionFault {
     }
 }
 
+// Written out: a derived `From` has no contract, and clauses name the fault that `?` makes.
 impl From<NumberFault> for CoercionFault {
     ghost from_gives = { λ number fault. told fault ≡ number_told number };
 
@@ -33,6 +34,7 @@ impl From<NumberFault> for CoercionFault {
     }
 }
 
+// Written out, for the same reason.
 impl From<DateFault> for CoercionFault {
     ghost from_gives = { λ date fault. told fault ≡ date_told date };
 

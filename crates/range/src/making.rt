@@ -53,7 +53,7 @@ impl<'a, T> Range<'a, T> {
         })
     }
 
-    /// Makes this the sheet of these corners, cells and text; a refusal leaves it as it was.
+    /// Makes this the sheet of these corners, cells and text, for who keeps an old sheet: a refusal leaves it as it was.
     pub fn make(
         &mut self,
         corners: Corners,

@@ -35,6 +35,7 @@ impl<'a, T: Cell> Iterator for UsedCells<'a, T> {
     }
 }
 
+// The back is a trait of its own, and so is written beside the front.
 impl<'a, T: Cell> DoubleEndedIterator for UsedCells<'a, T> {
     ghost next_back_gives = { YieldsLastBy cell_shown (used_left T.Cell.meaning) };
 

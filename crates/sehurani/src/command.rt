@@ -9,7 +9,7 @@ const USAGE: &str = "usage:
   sehurani show FILE     print a sheet file, row by row
   sehurani batch FILE    run each line of a text file as a command";
 
-/// Runs a command, or the commands of a file.
+/// Runs a command, or the commands of a file. A `match` on two names is plainer than a table of functions.
 pub(crate) fn run_words(rt: &HostRuntime, words: &[String]) -> anyhow::Result<ExitCode> {
     match words {
         [name, path] if name.as_str() == "batch" => batch(rt, path.as_str()),

@@ -7,6 +7,7 @@ use std::fmt;
 #[derive(Drop)]
 pub(crate) struct Refusal(pub(crate) FileFault);
 
+// The program's own words, and so not the faults' `Display`.
 fn words(fault: FileFault) -> &'static str {
     match fault {
         FileFault::Contents => "the table of contents is not lawful",
