@@ -1,5 +1,5 @@
 pub mod Zero
 pub mod Narrowing
 pub mod Reading
-pub mod Putting
+pub mod Printing
 pub mod Wholes

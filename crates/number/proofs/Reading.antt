@@ -1,10 +1,11 @@
 -- Digits and whole numbers as text.
-use Rattle.std.proofs.Common.{◌≡◌, ℕ, zero, suc, ◌+◌, ◌-◌, ◌*◌, ◌^◌, ◌<◌, ◌≤◌, Bool, true, false, cond, not, ◌&&◌, ◌||◌, eqb, ltb, leb, ◌⊎◌, List, [], ◌∷◌, ◌++◌, length, get_or, take, drop, ℤ, pos, negsuc, Some, None, decimal, Option, sym, refl, ap, ◌∙◌, inl, inr, true≢false, le_trans, le_refl, add-one, arith, drop-cons, rules}
+use Rattle.std.proofs.Common.{◌≡◌, ℕ, suc, ◌+◌, ◌-◌, ◌*◌, ◌^◌, ◌<◌, ◌≤◌, Bool, true, false, cond, not, ◌&&◌, ◌||◌, eqb, ltb, leb, List, [], ◌∷◌, ◌++◌, length, get_or, drop, ℤ, pos, negsuc, Some, None, decimal, Option, sym, refl, ap, ◌∙◌, inl, inr, true≢false, le_trans, le_refl, add-one, arith, drop-cons, rules}
 use lib.Signed.{mag}
-use lib.Seq.{drop-length, take-length}
+use lib.Seq.{drop-length}
 use Rattle.std.specs.Char.{is_ascii_digit}
+use Rattle.std.specs.Option.{option_map, is_some, IfSome}
 use Rattle.std.specs.Str.{all_ascii_digits}
-use Rattle.std.proofs.lemmas.Bool.{ltb-false, lt-ltb, le-ltb, leb-true, eqb-true, eq-eqb, ne_eqb, cond-true, cond-false, cond_both, cases_Bool, and_from, and_right, and_left, and_parts, and_cases, or_left, or_right, or_from}
+use Rattle.std.proofs.lemmas.Bool.{ltb-false, lt-ltb, le-ltb, leb-true, eqb-true, ne_eqb, cond-true, cond-false, cases_Bool, and_from, and_right, and_left, and_parts, and_cases, or_left, or_right, or_from}
 use Rattle.std.proofs.lemmas.Str.Parse.{IsNumeralModel, numerals_by_fold, tells_all_ascii_digits, digits_value_short}
 use Rattle.std.proofs.lemmas.Fmt.{decimal_nonempty, digits_decimal, digits_value-decimal}
 use Rattle.number.specs.Forms.{signed_text, whole_text}
@@ -82,83 +83,10 @@ large_value n ds a e = elim (and_cases (all_ascii_digits ds) (ltb (value_after n
   | inr l ↦ ltb-false _ _ l
 ]
 
--- a number of 2 ^ 64 or more is no signed number of 64 bits, with either sign
-unfit : (minus : Bool) (n : ℕ) → 2 ^ 64 ≤ n → fits (signed 63) (under_sign minus n) ≡ false
-unfit false n h = le-ltb n (2 ^ 63) (omega arith)
-unfit true zero h = let z : ⊥ = omega arith in absurd z
-unfit true (suc n) h = le-ltb n (2 ^ 63) (omega arith)
-
--- Digits under a sign, in a width whose numbers all fit 64 bits with a sign.
-module _ (w : Wide) (within : (z : ℤ) → fits w z ≡ true → fits (signed 63) z ≡ true) (minus : Bool) where
-  -- what does not fit 64 bits does not fit the width
-  outside : (z : ℤ) → fits (signed 63) z ≡ false → fits w z ≡ false
-  outside z e = elim (cases_Bool (fits w z)) [ inl f ↦ absurd (true≢false (sym (within z f) ∙ e)) | inr f ↦ f ]
-
-  -- digits that are not none
-  numeral_of : (ds : List ℕ) → (length ds ≡ 0 → ⊥) → numeral ds ≡ all_ascii_digits ds
-  numeral_of [] h = absurd (h refl)
-  numeral_of (d ∷ ds) h = refl
-
-  -- no digits
-  pub none_at_all : (ds : List ℕ) → length ds ≡ 0 → None ≡ digits_in w minus ds
-  none_at_all [] h = refl
-  none_at_all (d ∷ ds) h = let z : ⊥ = omega arith in absurd z
-
-  module _ (ds : List ℕ) (some : length ds ≡ 0 → ⊥) where
-    -- no digits throughout, or a number of more than 64 bits
-    pub unread : None ≡ digits_after 0 ds → None ≡ digits_in w minus ds
-    unread e =
-        let z = under_sign minus (value_after 0 ds) in
-        let no : (numeral ds && fits w z) ≡ false = elim (and_cases (all_ascii_digits ds) (ltb (value_after 0 ds) (2 ^ 64)) (none_is _ _ e)) [
-          | inl a ↦ and_left (numeral ds) (fits w z) (numeral_of ds some ∙ a)
-          | inr l ↦ and_right (numeral ds) (fits w z) (outside z (unfit minus (value_after 0 ds) (ltb-false _ _ l)))
-        ] in
-        sym (cond-false _ _ _ no)
-
-    module _ (n : ℕ) (read : Some n ≡ digits_after 0 ds) where
-      read_is : (all_ascii_digits ds ≡ true) × (value_after 0 ds ≡ n)
-      read_is = let p = some_is (all_ascii_digits ds && ltb (value_after 0 ds) (2 ^ 64)) (value_after 0 ds) n read in ((and_parts _ _ p.0).0, p.1)
-
-      -- a number that fits 64 bits without a sign only
-      pub unsigned_only : None ≡ if_fits (signed 63) (under_sign minus n) → None ≡ digits_in w minus ds
-      unsigned_only e =
-          sym (cond-false _ _ _ (and_right (numeral ds) _ (ap (λ (v : ℕ). fits w (under_sign minus v)) read_is.1 ∙ outside _ (none_is _ _ e))))
-
-      module _ (z : ℤ) (whole : Some z ≡ if_fits (signed 63) (under_sign minus n)) where
-        value_is : under_sign minus (value_after 0 ds) ≡ z
-        value_is = ap (under_sign minus) read_is.1 ∙ (some_is (fits (signed 63) (under_sign minus n)) _ _ whole).1
-
-        module _ (y : ℤ) (same : y ≡ z) where
-          -- a number that the width has, kept whole
-          pub held : true ≡ fits w y → Some (narrow_whole w y) ≡ digits_in w minus ds
-          held f =
-              let r : fits w z ≡ true = sym (ap (fits w) same) ∙ sym f in
-              ap Some (ap (narrow_whole w) same ∙ (keeps w z r ∙ sym value_is))
-              ∙ sym (cond-true _ _ _ (and_from _ _ (numeral_of ds some ∙ read_is.0) (ap (fits w) value_is ∙ r)))
-
-          -- and one that it does not have
-          pub not_held : false ≡ fits w y → None ≡ digits_in w minus ds
-          not_held f = sym (cond-false _ _ _ (and_right (numeral ds) _ (ap (fits w) value_is ∙ (sym (ap (fits w) same) ∙ sym f))))
-
--- a list without its first element
-rest_is : (b : ℕ) (bs : List ℕ) → take (length (b ∷ bs) - 1) (drop 1 (b ∷ bs)) ≡ bs
-rest_is b bs = ap (λ (k : ℕ). take k bs) (omega arith) ∙ take-length bs
-
--- what follows a sign byte
-pub sign_off : (text : List ℕ) → 1 ≤ length text → (get_or text 0 0 ≡ 43) ⊎ (get_or text 0 0 ≡ 45) → take (length text - 1) (drop 1 text) ≡ after_sign text
-sign_off [] h e = let z : ⊥ = omega arith in absurd z
-sign_off (b ∷ bs) h (inl e) = rest_is b bs ∙ sym (cond-true _ _ _ (or_left (eqb b 43) (eqb b 45) (eq-eqb b 43 e)))
-sign_off (b ∷ bs) h (inr e) = rest_is b bs ∙ sym (cond-true _ _ _ (or_right (eqb b 43) (eqb b 45) (eq-eqb b 45 e)))
-
--- whether it begins with a minus
-pub is_minus_text : (text : List ℕ) → 1 ≤ length text → get_or text 0 0 ≡ 45 → true ≡ is_minus (sign_of text)
-is_minus_text [] h e = let z : ⊥ = omega arith in absurd z
-is_minus_text (b ∷ bs) h e = sym (ap is_minus (cond-false (eqb b 43) plus _ (ne_eqb b 43 (λ q. omega arith)) ∙ cond-true (eqb b 45) minus bare (eq-eqb b 45 e)))
-
--- and that it does not
-pub no_minus_text : (text : List ℕ) → (1 ≤ length text → get_or text 0 0 ≡ 45 → ⊥) → false ≡ is_minus (sign_of text)
-no_minus_text [] m = refl
-no_minus_text (b ∷ bs) m = sym (cond_both (eqb b 43) plus (cond (eqb b 45) minus bare) (λ s. is_minus s ≡ false) (λ _. refl) (λ _. ap is_minus (cond-false (eqb b 45) minus bare (ne_eqb b 45 (m (omega arith))))))
+-- a number that is narrowed where its width has it is kept whole
+pub narrowed : {X : Type 0} (number : X → ℤ) (r : Option X) (w : Wide) (z : ℤ) → is_some r ≡ fits w z → IfSome r (λ x. number x ≡ narrow_whole w z) → option_map number r ≡ if_fits w z
+narrowed number None w z e s = sym (cond-false _ _ _ (sym e))
+narrowed number (Some x) w z e s = ap Some (s ∙ keeps w z (sym e)) ∙ sym (cond-true _ _ _ (sym e))
 
 -- every text is its sign and what follows that
 pub sign_front : (text : List ℕ) → sign_bytes (sign_of text) ++ after_sign text ≡ text

@@ -5,7 +5,7 @@ ghost use Rattle.number.specs.Widths.{signed, under_sign, if_fits};
 ghost use Rattle.number.specs.Numerals.{digits_in, whole_of_text, Writes};
 
 use crate::digits::read_digits;
-use crate::sign::split_sign;
+use crate::sign::{Signed, split_sign};
 use crate::width::Width;
 
 /// The number that a text writes: an optional sign, a minus only in a width that has one, and at
@@ -15,38 +15,37 @@ pub fn parse_whole<W: Width>(text: &[u8]) -> Option<W>
     ensures written { (z : ℤ) → whole_of_text W.Width.wide text.now ≡ Some z → Writes W.Width.wide text.now z }
     ensures read { (z : ℤ) → Writes W.Width.wide text.now z → whole_of_text W.Width.wide text.now ≡ Some z }
 {
-    let (minus, digits) = split_sign(text);
-    if minus && !W::holds(-1) {
+    let digits = split_sign(text);
+    if digits.minus && !W::holds(-1) {
         None
     } else {
-        parse_digits(minus, digits)
+        parse_digits(digits)
     }
 }
 
 /// Digits under a sign, as a number of the width.
-fn parse_digits<W: Width>(minus: bool, digits: &[u8]) -> Option<W>
-    ensures { option_map W.Width.number result ≡ digits_in W.Width.wide minus digits.now }
+fn parse_digits<W: Width>(digits: Signed<&[u8]>) -> Option<W>
+    ensures { option_map W.Width.number result ≡ digits_in W.Width.wide digits.entry.minus digits.entry.size.now }
 {
-    if digits.is_empty() {
+    if digits.size.is_empty() {
         return None;
     }
-    let size = read_digits(0, digits)?;
-    let number = signed_size(minus, size)?;
-    if W::holds(number) {
-        Some(W::narrow_whole(number))
-    } else {
-        None
-    }
+    let size = read_digits(0, digits.size)?;
+    let minus = digits.minus;
+    let number = Signed { minus, size }.to_whole()?;
+    W::holds(number).then(|| W::narrow_whole(number))
 }
 
-/// A size under a sign, where it has at most 64 bits.
-fn signed_size(minus: bool, size: u64) -> Option<i64>
-    ensures { result ≡ if_fits (signed 63) (under_sign minus size) }
-{
-    let number = if minus {
-        -i128::from(size)
-    } else {
-        i128::from(size)
-    };
-    i64::try_from(number).ok()
+impl Signed<u64> {
+    /// The number that it is, where that has at most 64 bits.
+    fn to_whole(self) -> Option<i64>
+        ensures { result ≡ if_fits (signed 63) (under_sign self.minus self.size) }
+    {
+        let number = if self.minus {
+            -i128::from(self.size)
+        } else {
+            i128::from(self.size)
+        };
+        i64::try_from(number).ok()
+    }
 }

@@ -1,10 +1,8 @@
 // A printed number, held by value.
-ghost use Rattle.std.specs.Prelude.{◌≤◌};
+use arrayvec::ArrayString;
 
-/// At most 20 bytes, which stand at the end of the array.
+/// A text of at most 20 bytes.
 #[derive(Clone, Copy)]
 pub struct Printed {
-    pub(crate) bytes: [u8; 20],
-    pub(crate) start: usize,
-    ghost within: { start ≤ 20 },
+    pub(crate) text: ArrayString<20>,
 }

@@ -2,14 +2,23 @@
 ghost use Rattle.std.specs.Prelude.{◌≡◌};
 ghost use Rattle.number.specs.Numerals.{sign_of, is_minus, after_sign};
 
-/// Whether a text begins with a minus, and what follows its sign, if it has one.
-pub fn split_sign(text: &[u8]) -> (bool, &[u8])
-    ensures minus { result.0 ≡ is_minus (sign_of text.now) }
-    ensures rest { result.1.now ≡ after_sign text.now }
+/// A sign and what stands under it: digits, or the number that they write.
+#[derive(Clone, Copy, PartialEq, Eq, Debug)]
+pub struct Signed<T> {
+    /// Whether the sign is a minus.
+    pub minus: bool,
+    pub size: T,
+}
+
+/// The sign that a text begins with, and what follows it.
+pub fn split_sign(text: &[u8]) -> Signed<&[u8]>
+    ensures minus { result.minus ≡ is_minus (sign_of text.now) }
+    ensures rest { result.size.now ≡ after_sign text.now }
 {
-    match text {
+    let (minus, size) = match text {
         [b'-', rest @ ..] => (true, rest),
         [b'+', rest @ ..] => (false, rest),
         _ => (false, text),
-    }
+    };
+    Signed { minus, size }
 }

@@ -3,7 +3,7 @@ use crate::digits::read_digits;
 use crate::float::{float_of_bits, is_zero, nearest};
 use crate::parse::parse_whole;
 use crate::print::{print_float, print_whole};
-use crate::sign::split_sign;
+use crate::sign::{Signed, split_sign};
 use crate::width::Width;
 use std::test::Fail;
 
@@ -84,7 +84,13 @@ fn texts_are_parsed(rt: HostRuntime) {
     assert!(rt; parse_whole(&zeros) == Some(7_u8));
     assert!(rt; read_digits(12, b"34") == Some(1234));
     assert!(rt; read_digits(12, b"3.4") == None);
-    assert!(rt; split_sign(b"-5") == (true, b"5"));
+    assert!(rt;
+        split_sign(b"-5")
+            == Signed {
+                minus: true,
+                size: b"5"
+            }
+    );
 }
 
 #[test]

@@ -49,6 +49,8 @@ impl Width for i64 {
     }
 }
 
+// The impls for u32 and u8 differ in the type alone, and each is written out: a macro may write no
+// impl here, and the library's casts are functions of one type each.
 impl Width for u32 {
     ghost wide = { unsigned 32 };
 
@@ -57,7 +59,7 @@ impl Width for u32 {
     ghost within = { Prim.search rules };
 
     fn holds(n: i64) -> bool {
-        0 <= n && n <= 4294967295
+        u32::try_from(n).is_ok()
     }
 
     fn narrow_float(x: f64) -> u32 {
@@ -77,7 +79,7 @@ impl Width for u8 {
     ghost within = { Prim.search rules };
 
     fn holds(n: i64) -> bool {
-        0 <= n && n <= 255
+        u8::try_from(n).is_ok()
     }
 
     fn narrow_float(x: f64) -> u8 {

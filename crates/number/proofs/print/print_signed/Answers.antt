@@ -1,16 +1,12 @@
-use Rattle.std.proofs.Common.{arith}
-use Rattle.number.proofs.Putting.{with_minus, without_minus}
+use Rattle.std.proofs.Common.{rules, arith}
+use Rattle.number.proofs.Printing.{short}
 use Rattle.number.proofs.print.print_signed.Goals as goal
-use Rattle.number.proofs.print.print_signed.Goals.{then-minus, else-minus}
+use Rattle.number.proofs.print.print_signed.Goals.{then-whole, else-whole}
 
-pub returns : goal.returns
-returns c =
-    let d = c.write_digits-start in
-    elim c.if-minus.branch [
-      | then-minus w ↦
-          with_minus d.new.bytes c.if-minus.bytes c.args.minus c.args.size d.result c.if-minus.start w.bytes-is w.start-is
-          w.if-minus.true d.ensures.room (omega arith) d.ensures.digits
-      | else-minus w ↦
-          without_minus d.new.bytes c.if-minus.bytes c.args.minus c.args.size d.result c.if-minus.start w.bytes-is w.start-is
-          w.if-minus.false d.ensures.digits
+pub push_str-requires : goal.push_str-requires
+push_str-requires c =
+    let digits = short c.format.result.now _ c.format.ensures.text (omega arith) in
+    elim c.if-whole.branch [
+      | then-whole w ↦ search (rules, digits)
+      | else-whole w ↦ search (rules, digits)
     ]
