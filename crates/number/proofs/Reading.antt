@@ -1,11 +1,10 @@
 -- Digits and whole numbers as text.
 use Rattle.std.proofs.Common.{◌≡◌, ℕ, suc, ◌+◌, ◌-◌, ◌*◌, ◌^◌, ◌<◌, ◌≤◌, Bool, true, false, cond, not, ◌&&◌, ◌||◌, eqb, ltb, leb, List, [], ◌∷◌, ◌++◌, length, get_or, drop, ℤ, pos, negsuc, Some, None, decimal, Option, sym, refl, ap, ◌∙◌, inl, inr, true≢false, le_trans, le_refl, add-one, arith, drop-cons, rules}
 use lib.Signed.{mag}
-use lib.Seq.{drop-length}
 use Rattle.std.specs.Char.{is_ascii_digit}
 use Rattle.std.specs.Option.{option_map, is_some, IfSome}
 use Rattle.std.specs.Str.{all_ascii_digits}
-use Rattle.std.proofs.lemmas.Bool.{ltb-false, lt-ltb, le-ltb, leb-true, eqb-true, ne_eqb, cond-true, cond-false, cases_Bool, and_from, and_right, and_left, and_parts, and_cases, or_left, or_right, or_from}
+use Rattle.std.proofs.lemmas.Bool.{ltb-false, lt-ltb, le-ltb, leb-true, eqb-true, ne_eqb, cond-true, cond-false, cases_Bool, and_from, and_right, and_parts, and_cases, or_left, or_right, or_from}
 use Rattle.std.proofs.lemmas.Str.Parse.{IsNumeralModel, numerals_by_fold, tells_all_ascii_digits, digits_value_short}
 use Rattle.std.proofs.lemmas.Fmt.{decimal_nonempty, digits_decimal, digits_value-decimal}
 use Rattle.number.specs.Forms.{signed_text, whole_text}
@@ -23,15 +22,6 @@ pub value_ge : (n : ℕ) (xs : List ℕ) → n ≤ value_after n xs
 value_ge n [] = le_refl n
 value_ge n (x ∷ xs) = le_trans (omega arith) (value_ge (n * 10 + (x - 48)) xs)
 
--- a digit more
-pub digit_more : (n b : ℕ) (bs : List ℕ) → is_ascii_digit b ≡ true → digits_after (n * 10 + (b - 48)) bs ≡ digits_after n (b ∷ bs)
-digit_more n b bs e =
-    ap (λ (t : Bool). cond ((t && all_ascii_digits bs) && ltb (value_after (n * 10 + (b - 48)) bs) (2 ^ 64)) (Some (value_after (n * 10 + (b - 48)) bs)) None) (sym e)
-
--- a byte that is no digit
-pub no_digit : (n b : ℕ) (bs : List ℕ) → is_ascii_digit b ≡ false → digits_after n (b ∷ bs) ≡ None
-no_digit n b bs e = cond-false _ _ _ (and_left _ _ (and_left _ _ e))
-
 -- a number that is too large already
 pub too_large : (n b : ℕ) (bs : List ℕ) → 2 ^ 64 ≤ n * 10 + (b - 48) → digits_after n (b ∷ bs) ≡ None
 too_large n b bs h = cond-false _ _ _ (and_right _ _ (le-ltb _ _ (le_trans h (value_ge (n * 10 + (b - 48)) bs))))
@@ -40,27 +30,10 @@ too_large n b bs h = cond-false _ _ _ (and_right _ _ (le-ltb _ _ (le_trans h (va
 front : (ds : List ℕ) (i : ℕ) → i < length ds → drop i ds ≡ get_or ds i 0 ∷ drop (i + 1) ds
 front ds i h = drop-cons ds i 0 h ∙ ap (λ (k : ℕ). get_or ds i 0 ∷ drop k ds) (sym (add-one i))
 
--- A loop over digits: n is read and the rest from i on is left, which together are the whole.
-module _ (n a i : ℕ) (ds : List ℕ) (h : i < length ds) (inv : digits_after n (drop i ds) ≡ digits_after a ds) where
-  left_is : digits_after n (get_or ds i 0 ∷ drop (i + 1) ds) ≡ digits_after a ds
-  left_is = ap (digits_after n) (sym (front ds i h)) ∙ inv
-
-  -- one more digit
-  pub read_more : (m : ℕ) → is_ascii_digit (get_or ds i 0) ≡ true → m ≡ n * 10 + (get_or ds i 0 - 48) → digits_after m (drop (i + 1) ds) ≡ digits_after a ds
-  read_more m e q = ap (λ (k : ℕ). digits_after k (drop (i + 1) ds)) q ∙ (digit_more n (get_or ds i 0) (drop (i + 1) ds) e ∙ left_is)
-
-  -- a byte that is no digit
-  pub read_no_digit : is_ascii_digit (get_or ds i 0) ≡ false → None ≡ digits_after a ds
-  read_no_digit e = sym (no_digit n (get_or ds i 0) (drop (i + 1) ds) e) ∙ left_is
-
-  -- a number that is too large
-  pub read_too_large : 2 ^ 64 ≤ n * 10 + (get_or ds i 0 - 48) → None ≡ digits_after a ds
-  read_too_large l = sym (too_large n (get_or ds i 0) (drop (i + 1) ds) l) ∙ left_is
-
--- the end of such a loop
-pub read_all : (n a i : ℕ) (ds : List ℕ) → n < 2 ^ 64 → i ≡ length ds → digits_after n (drop i ds) ≡ digits_after a ds → Some n ≡ digits_after a ds
-read_all n a i ds l e inv =
-    sym (cond-true _ _ _ (lt-ltb n (2 ^ 64) l)) ∙ (ap (digits_after n) (sym (ap (λ (k : ℕ). drop k ds) e ∙ drop-length ds)) ∙ inv)
+-- a loop over digits, where n is read and the rest from i on is left: the next digit makes too large a number
+pub read_too_large : (n a i : ℕ) (ds : List ℕ) → i < length ds → digits_after n (drop i ds) ≡ digits_after a ds → 2 ^ 64 ≤ n * 10 + (get_or ds i 0 - 48) → None ≡ digits_after a ds
+read_too_large n a i ds h whole l =
+    sym (too_large n (get_or ds i 0) (drop (i + 1) ds) l) ∙ (ap (digits_after n) (sym (front ds i h)) ∙ whole)
 
 -- what a test says that was passed
 pub some_is : {A : Type 0} (b : Bool) (x y : A) → Some y ≡ cond b (Some x) None → (b ≡ true) × (x ≡ y)
