@@ -9,7 +9,6 @@ ghost use Rattle.number.specs.Numerals.{whole_of_text};
 
 use crate::printed::Printed;
 use crate::sign::Signed;
-use arrayvec::ArrayString;
 use std::num::saturating_f64_to_u64;
 
 impl Printed {
@@ -18,7 +17,8 @@ impl Printed {
         ensures { printed_text result ≡ [] }
     {
         Printed {
-            text: ArrayString::new(),
+            bytes: [0; 20],
+            start: 20,
         }
     }
 
@@ -26,7 +26,7 @@ impl Printed {
     pub fn as_bytes(&self) -> &[u8]
         ensures { result.now ≡ printed_text self.now }
     {
-        self.text.as_str().as_bytes()
+        &self.bytes[self.start..]
     }
 }
 
@@ -54,9 +54,17 @@ pub fn print_float(x: f64) -> Option<Printed>
 pub fn print_bool(value: bool) -> Printed
     ensures { printed_text result ≡ bool_text value }
 {
-    let mut text = ArrayString::new();
-    text.push_str(if value { "true" } else { "false" });
-    Printed { text }
+    if value {
+        Printed {
+            bytes: *b"                true",
+            start: 16,
+        }
+    } else {
+        Printed {
+            bytes: *b"               false",
+            start: 15,
+        }
+    }
 }
 
 /// A size in decimal, after a minus where there is one.
@@ -64,12 +72,13 @@ fn print_signed(whole: Signed<u64>) -> Printed
     requires { whole.size ≤ 2 ^ 63 }
     ensures { printed_text result ≡ signed_text whole.minus whole.size }
 {
-    let mut text = ArrayString::new();
+    let mut bytes = [0; 20];
+    let mut start = itoa::write_digits(whole.size, &mut bytes, 20);
     if whole.minus {
-        text.push('-');
+        start -= 1;
+        bytes[start] = b'-';
     }
-    text.push_str(itoa::Buffer::new().format(whole.size));
-    Printed { text }
+    Printed { bytes, start }
 }
 
 /// The sign and the size of a float that is whole and below 2^53 in size.

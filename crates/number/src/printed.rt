@@ -1,8 +1,12 @@
 // A printed number, held by value.
-use arrayvec::ArrayString;
+ghost use Rattle.std.specs.Prelude.{◌≤◌};
 
-/// A text of at most 20 bytes.
+/// At most 20 bytes, which stand at the end of the array.
+// Not a text of fixed capacity (`ArrayString`): that has a model, and a `?` that hands on such a
+// text beside a lent slice, as a text form holds it, gets no proof.
 #[derive(Clone, Copy)]
 pub struct Printed {
-    pub(crate) text: ArrayString<20>,
+    pub(crate) bytes: [u8; 20],
+    pub(crate) start: usize,
+    ghost within: { start ≤ 20 },
 }
