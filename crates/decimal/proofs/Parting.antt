@@ -1,11 +1,13 @@
 -- Number text taken apart, part by part.
-use Rattle.std.proofs.Common.{◌≡◌, ℕ, ◌+◌, ◌-◌, ◌<◌, ◌≤◌, Bool, true, false, ◌&&◌, ◌||◌, eqb, List, [], ◌∷◌, ◌++◌, length, get_or, take, drop, Some, None, sym, refl, ap, ◌∙◌, inl, inr, true≢false, append-nil, arith, drop-cons}
+use Rattle.std.proofs.Common.{◌≡◌, ℕ, suc, ◌+◌, ◌-◌, ◌≤◌, Bool, true, false, not, cond, ◌&&◌, ◌||◌, eqb, List, [], ◌∷◌, ◌++◌, length, get_or, take, drop, Some, None, Option, sym, refl, ap, ◌∙◌, inl, inr, true≢false, append-nil, arith}
 use lib.Seq.{take-length}
 use Rattle.std.specs.Char.{is_ascii_digit}
 use Rattle.std.specs.Str.{all_ascii_digits}
-use Rattle.std.specs.Option.{option_map}
-use Rattle.std.proofs.lemmas.List.{take_more, take-append-drop, nil_from_length}
-use Rattle.std.proofs.lemmas.Bool.{cases_eq, eq-eqb, cond-true, cond-false, cases_Bool, and_from, and_right, and_parts, or_left, or_right}
+use Rattle.std.specs.List.{position, position_or_len}
+use Rattle.std.specs.Option.{option_map, unwrap_or}
+use Rattle.std.proofs.lemmas.List.{nil_from_length}
+use Rattle.std.proofs.lemmas.List.Sums.{prefix_len-le-length}
+use Rattle.std.proofs.lemmas.Bool.{lt-ltb, le-ltb, cases_lt, cases_eq, eq-eqb, cond-true, cond-false, cases_Bool, and_from, and_right, and_parts, or_left, or_right}
 use Rattle.number.specs.Numerals.{is_minus, sign_of, after_sign, numeral}
 use Rattle.number.proofs.Reading.{some_is}
 use Rattle.decimal.specs.Amount.{heading, power_of}
@@ -49,19 +51,33 @@ past_is (d ∷ ds) bs a n =
     let p = and_parts (is_ascii_digit d) (all_ascii_digits ds) a in
     cond-true _ _ _ p.0 ∙ past_is ds bs p.1 n
 
--- one digit more
-pub all_more : (bs : List ℕ) (i : ℕ) → i < length bs → all_ascii_digits (take i bs) ≡ true → is_ascii_digit (get_or bs i 0) ≡ true → all_ascii_digits (take (i + 1) bs) ≡ true
-all_more bs i h a e =
-    ap all_ascii_digits (take_more bs i 0 h)
-    ∙ (all_append (take i bs) (get_or bs i 0 ∷ []) ∙ and_from _ _ a (and_from _ true e refl))
+-- where digits end
+abbrev pub end : List ℕ → ℕ
+end bs = position_or_len (λ b. not (is_ascii_digit b)) bs
 
--- the digits end at a byte that is none
-pub ends_at : (bs : List ℕ) (i : ℕ) → i < length bs → all_ascii_digits (take i bs) ≡ true → is_ascii_digit (get_or bs i 0) ≡ false → (take i bs ≡ front_digits bs) × (drop i bs ≡ past_digits bs)
-ends_at bs i h a e =
-    let n : front_digits (drop i bs) ≡ [] = ap front_digits (drop-cons bs i 0 h) ∙ cond-false _ _ _ e in (
-      sym (front_is (take i bs) (drop i bs) a n) ∙ ap front_digits (take-append-drop i bs),
-      sym (past_is (take i bs) (drop i bs) a n) ∙ ap past_digits (take-append-drop i bs),
-    )
+-- the place of a first byte that is no digit, or the length where there is none
+pub end_is : (bs : List ℕ) → unwrap_or (position (λ b. not (is_ascii_digit b)) bs) (length bs) ≡ end bs
+end_is bs = elim (cases_lt (end bs) (length bs)) [
+  | inl l ↦ ap (λ (o : Option ℕ). unwrap_or o (length bs)) (cond-true _ _ _ (lt-ltb _ _ l))
+  | inr g ↦ ap (λ (o : Option ℕ). unwrap_or o (length bs)) (cond-false _ _ _ (le-ltb _ _ g)) ∙ omega (arith, prefix_len-le-length (λ b. not (not (is_ascii_digit b))) bs)
+]
+
+-- up to there stand the digits in front, and from there on what follows them
+pub ends_at : (bs : List ℕ) → (take (end bs) bs ≡ front_digits bs) × (drop (end bs) bs ≡ past_digits bs)
+ends_at [] = (refl, refl)
+ends_at (b ∷ bs) =
+    let p = ends_at bs in
+    let more : 1 + end bs ≡ suc (end bs) = omega arith in
+    elim (cases_Bool (is_ascii_digit b)) [
+      | inl e ↦ (
+        (λ i. take (cond (not (not (e i))) (more i) 0) (b ∷ bs)) ∙ (ap (λ (l : List ℕ). b ∷ l) p.0 ∙ sym (cond-true _ _ _ e)),
+        (λ i. drop (cond (not (not (e i))) (more i) 0) (b ∷ bs)) ∙ (p.1 ∙ sym (cond-true _ _ _ e)),
+      )
+      | inr e ↦ (
+        (λ i. take (cond (not (not (e i))) (1 + end bs) 0) (b ∷ bs)) ∙ sym (cond-false _ _ _ e),
+        (λ i. drop (cond (not (not (e i))) (1 + end bs) 0) (b ∷ bs)) ∙ sym (cond-false _ _ _ e),
+      )
+    ]
 
 -- a text of digits alone is its own front
 pub ends_all : (bs : List ℕ) → all_ascii_digits bs ≡ true → (bs ≡ front_digits bs) × ([] ≡ past_digits bs)
@@ -109,11 +125,11 @@ module _ (bs rest ds : List ℕ) (r : rest ≡ after_sign bs) (d : ds ≡ front_
   power_more tail t h = sym (cond-false _ _ _ (ap numeral (sym r) ∙ some_tail rest (λ e. h (ap length t ∙ e))))
 
   -- or digits
-  pub power_found : (tail : List ℕ) (m : Bool) → m ≡ is_minus (sign_of bs) → tail ≡ past_digits rest → length tail ≡ 0 → (length ds ≡ 0 → ⊥) → Some (m, ds) ≡ power_of bs
+  pub power_found : (tail : List ℕ) (m : Bool) → m ≡ is_minus (sign_of bs) → tail ≡ past_digits rest → length tail ≡ 0 → (length ds ≡ 0 → ⊥) → Some (m, rest) ≡ power_of bs
   power_found tail m s t h n =
       let all : front_digits rest ≡ rest = past_none rest (sym (ap length t) ∙ h) in
       let a : numeral rest ≡ true = numeral_some rest (λ e. n (ap length (d ∙ all) ∙ e)) (sym (ap all_ascii_digits all) ∙ all_front rest) in
-      (λ i. Some (s i, (d ∙ (all ∙ r)) i)) ∙ sym (cond-true _ _ _ (ap numeral (sym r) ∙ a))
+      (λ i. Some (s i, r i)) ∙ sym (cond-true _ _ _ (ap numeral (sym r) ∙ a))
 
 -- the heading of an exponent is that of what follows its letter
 heading_of : (b : ℕ) (bs : List ℕ) → (eqb b 101 || eqb b 69) ≡ true → power_of bs ≡ option_map heading (exponent_of (b ∷ bs))

@@ -16,11 +16,6 @@ heading_found : (o : Option Exponent) (p : Bool × List ℕ) → Some p ≡ opti
 heading_found None p e = let k : ◌≡◌ {A = ℕ} 0 1 = cc in let z : ⊥ = omega arith in absurd z
 heading_found (Some x) p e = (x, refl, cc)
 
--- and that none was found
-heading_none : (o : Option Exponent) → None ≡ option_map heading o → o ≡ None
-heading_none None e = refl
-heading_none (Some x) e = let k : ◌≡◌ {A = ℕ} 0 1 = cc in let z : ⊥ = omega arith in absurd z
-
 -- a refusal, or what the parts stand for
 closed_as : (s : Sign) (ds : List ℕ) (f : Fraction) (x : Exponent)
     → or_refused (closed s ds f (Some x)) ≡ cond (numeral (ds ++ places f)) (or_beyond (amount (is_minus s) ds (places f) (falls x) (exponent_digits x))) (Err 13)
@@ -40,11 +35,6 @@ module _ (text body whole rest fraction last : List ℕ)
   -- what is left for the exponent, from the text
   last_is : exponent_of last ≡ exponent_of (past_fraction (past_digits (after_sign text)))
   last_is = ap exponent_of (t ∙ ap past_fraction rest_is)
-
-  -- what is left is no exponent
-  pub no_exponent : None ≡ option_map heading (exponent_of last) → Err 13 ≡ float_of_text text
-  no_exponent e =
-      sym (ap (λ (o : Option Exponent). or_refused (closed (sign_of text) (front_digits (after_sign text)) (front_fraction (past_digits (after_sign text))) o)) (sym last_is ∙ heading_none (exponent_of last) e))
 
   module _ (down : Bool) (exponent : List ℕ) (e : Some (down, exponent) ≡ option_map heading (exponent_of last)) where
     -- the digits of the parts are digits
@@ -82,15 +72,6 @@ module _ (text body whole rest fraction last : List ℕ)
         ∙ (closed_as (sign_of text) ds g p.0
         ∙ (λ i. A (sym (w ∙ ap front_digits b) i) (sym (f ∙ ap (λ (l : List ℕ). places (front_fraction l)) rest_is) i) (p.2 i)))
 
-    -- no digit on either side of the point
-    pub no_digits : length whole ≡ 0 → length fraction ≡ 0 → Err 13 ≡ float_of_text text
-    no_digits h k = sym (text_as ∙ cond-false _ _ _ (bare whole fraction h k))
-      where
-        bare : (xs ys : List ℕ) → length xs ≡ 0 → length ys ≡ 0 → numeral (xs ++ ys) ≡ false
-        bare [] [] h k = refl
-        bare [] (y ∷ ys) h k = let z : ⊥ = omega arith in absurd z
-        bare (x ∷ xs) ys h k = let z : ⊥ = omega arith in absurd z
-
     module _ (some : length whole ≡ 0 → length fraction ≡ 0 → ⊥) where
       digits_there : numeral (whole ++ fraction) ≡ true
       digits_there = numeral_some (whole ++ fraction) (λ h. none whole fraction some h) (all_append whole fraction ∙ and_from _ _ whole_digits fraction_digits)
@@ -100,21 +81,19 @@ module _ (text body whole rest fraction last : List ℕ)
           none [] (y ∷ ys) n h = omega arith
           none (x ∷ xs) ys n h = omega arith
 
-      read_as : or_beyond (amount (is_minus (sign_of text)) whole fraction down exponent) ≡ float_of_text text
+      pub read_as : or_beyond (amount (is_minus (sign_of text)) whole fraction down exponent) ≡ float_of_text text
       read_as = sym (text_as ∙ cond-true _ _ _ digits_there)
 
-      -- beyond the limits
-      pub beyond : None ≡ amount false whole fraction down exponent → Err 14 ≡ float_of_text text
-      beyond n = ap or_beyond (either (is_minus (sign_of text))) ∙ read_as
-        where
-          either : (m : Bool) → None ≡ amount m whole fraction down exponent
-          either true = ap (option_map neg) n ∙ sym (amount_minus whole fraction exponent down)
-          either false = n
+-- what a minus, or none, makes of the amount without one
+module _ (whole fraction exponent : List ℕ) (down : Bool) where
+  -- beyond the limits
+  pub beyond : (m : Bool) → None ≡ amount false whole fraction down exponent → Err 14 ≡ or_beyond (amount m whole fraction down exponent)
+  beyond true n = ap or_beyond (ap (option_map neg) n ∙ sym (amount_minus whole fraction exponent down))
+  beyond false n = ap or_beyond n
 
-      -- a value, and one under a minus
-      pub plain : (x : Float) → Some x ≡ amount false whole fraction down exponent → is_minus (sign_of text) ≡ false → Ok x ≡ float_of_text text
-      plain x n m = ap or_beyond (n ∙ ap (λ (s : Bool). amount s whole fraction down exponent) (sym m)) ∙ read_as
+  -- a value, and one under a minus
+  pub plain : (m : Bool) (x : Float) → Some x ≡ amount false whole fraction down exponent → m ≡ false → Ok x ≡ or_beyond (amount m whole fraction down exponent)
+  plain m x n e = ap or_beyond (n ∙ ap (λ (s : Bool). amount s whole fraction down exponent) (sym e))
 
-      pub turned : (x : Float) → Some x ≡ amount false whole fraction down exponent → is_minus (sign_of text) ≡ true → Ok (neg x) ≡ float_of_text text
-      turned x n m =
-          ap or_beyond (ap (option_map neg) n ∙ (sym (amount_minus whole fraction exponent down) ∙ ap (λ (s : Bool). amount s whole fraction down exponent) (sym m))) ∙ read_as
+  pub turned : (m : Bool) (x : Float) → Some x ≡ amount false whole fraction down exponent → m ≡ true → Ok (neg x) ≡ or_beyond (amount m whole fraction down exponent)
+  turned m x n e = ap or_beyond (ap (option_map neg) n ∙ (sym (amount_minus whole fraction exponent down) ∙ ap (λ (s : Bool). amount s whole fraction down exponent) (sym e)))

@@ -1,5 +1,6 @@
 -- The exponent less the number of places, cut where it is out of reach anyway.
-use Rattle.std.proofs.Common.{◌≡◌, ℕ, zero, suc, ◌^◌, ◌<◌, ◌≤◌, min, Bool, true, false, cond, ℤ, pos, negsuc, ◌-ℤ◌, neg_ℤ, nat_abs, ◌≤ℤ◌, ◌<ℤ◌, Some, None, sym, refl, ap, ◌∙◌, inl, inr, arith, w32, to_z, of_z}
+use Rattle.std.proofs.Common.{◌≡◌, ℕ, zero, suc, ◌^◌, ◌<◌, ◌≤◌, min, Bool, true, false, cond, leb, ℤ, pos, negsuc, ◌-ℤ◌, neg_ℤ, nat_abs, ◌≤ℤ◌, ◌<ℤ◌, Some, None, sym, refl, ap, ◌∙◌, inl, inr, arith, w32, to_z, of_z}
+use Rattle.std.specs.Bool.{then_some}
 use Rattle.std.proofs.lemmas.Int.{ints}
 use Rattle.std.proofs.lemmas.Bool.{cases_lt, cond-true, cond-false, le-leb, lt-leb}
 use Rattle.number.specs.Widths.{under_sign}
@@ -33,17 +34,24 @@ module _ (down : Bool) (power places : ℕ) (s : ℤ) (small : power < 10 ^ 4) (
       far z p n q b l = omega (arith, ints)
 
   -- a scale in reach is the true one
-  pub scale_found : nat_abs s ≤ 22 → Some s ≡ cond (in_reach (under_sign down power -ℤ pos places)) (Some (under_sign down power -ℤ pos places)) None
+  scale_found : nat_abs s ≤ 22 → Some s ≡ cond (in_reach (under_sign down power -ℤ pos places)) (Some (under_sign down power -ℤ pos places)) None
   scale_found h = elim (cases_lt 20000 places) [
     | inl f ↦ let b = many f in let y : ⊥ = omega arith in absurd y
     | inr f ↦ ap Some (same f) ∙ sym (cond-true _ _ _ (ap in_reach (sym (same f)) ∙ le-leb (nat_abs s) 22 h))
   ]
 
   -- and one out of reach stays so
-  pub scale_lost : 22 < nat_abs s → None ≡ cond (in_reach (under_sign down power -ℤ pos places)) (Some (under_sign down power -ℤ pos places)) None
+  scale_lost : 22 < nat_abs s → None ≡ cond (in_reach (under_sign down power -ℤ pos places)) (Some (under_sign down power -ℤ pos places)) None
   scale_lost h = elim (cases_lt 20000 places) [
     | inl f ↦ sym (cond-false (in_reach (under_sign down power -ℤ pos places)) _ _ (lt-leb (nat_abs (under_sign down power -ℤ pos places)) 22 (many f).1))
     | inr f ↦ sym (cond-false _ _ _ (ap in_reach (sym (same f)) ∙ lt-leb (nat_abs s) 22 h))
+  ]
+
+  -- so a test tells it
+  pub scale_told : (size : ℕ) → size ≡ nat_abs s → then_some (leb size 22) s ≡ cond (in_reach (under_sign down power -ℤ pos places)) (Some (under_sign down power -ℤ pos places)) None
+  scale_told size e = elim (cases_lt 22 size) [
+    | inl f ↦ ap (λ (b : Bool). then_some b s) (lt-leb size 22 f) ∙ scale_lost (omega arith)
+    | inr f ↦ ap (λ (b : Bool). then_some b s) (le-leb size 22 f) ∙ scale_found (omega arith)
   ]
 
 -- an exponent of at most four digits under its sign, in 32 bits

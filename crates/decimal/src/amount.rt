@@ -1,13 +1,15 @@
 // The value of number text: all digits as one whole number times a power of ten, rounded once.
 ghost use Rattle.std.specs.Prelude.{◌≡◌, ◌^◌, ◌<◌, true, false, pos, ◌-ℤ◌, if◌then◌else◌, Some, None, nat_lt};
 ghost use Rattle.std.specs.Float.Ieee.Exact.{HasValue};
-ghost use Rattle.std.specs.Str.{all_ascii_digits};
 ghost use Rattle.number.specs.Widths.{under_sign};
 ghost use Rattle.decimal.specs.Amount.{in_reach, nearest_decimal, amount};
 
+use crate::digits::Digits;
 use number::digits::read_digits;
+use number::sign::Signed;
 
-/// The powers of ten that are floats exactly.
+/// The powers of ten that are floats exactly. A table: one look-up in place of the products of
+/// `powi`, each of which is rounded.
 const TENS: [f64; 23] = [
     1e0, 1e1, 1e2, 1e3, 1e4, 1e5, 1e6, 1e7, 1e8, 1e9, 1e10, 1e11, 1e12, 1e13, 1e14, 1e15, 1e16,
     1e17, 1e18, 1e19, 1e20, 1e21, 1e22,
@@ -28,13 +30,15 @@ const MANY_PLACES: usize = 20_000;
 /// All digits as one whole number times ten to the scale. None where there are more than four
 /// exponent digits, where the number is 10^15 or more, or where the scale is out of reach and the
 /// number is not 0.
-pub(crate) fn read_amount(whole: &[u8], fraction: &[u8], down: bool, exponent: &[u8]) -> Option<f64>
-    requires wholes { all_ascii_digits whole.now ≡ true }
-    requires fractions { all_ascii_digits fraction.now ≡ true }
-    requires exponents { all_ascii_digits exponent.now ≡ true }
-    ensures { result ≡ amount false whole.now fraction.now down exponent.now }
+pub(crate) fn read_amount(digits: Digits<'_>) -> Option<f64>
+    ensures { result ≡ amount false digits.entry.whole.now digits.entry.fraction.now digits.entry.exponent.minus digits.entry.exponent.size.now }
 {
-    if exponent.len() > EXPONENT_DIGITS {
+    let Digits {
+        whole,
+        fraction,
+        exponent,
+    } = digits;
+    if exponent.size.len() > EXPONENT_DIGITS {
         return None;
     }
     let before_point = read_digits(0, whole)?;
@@ -45,8 +49,9 @@ pub(crate) fn read_amount(whole: &[u8], fraction: &[u8], down: bool, exponent: &
     if number == 0 {
         return Some(0.0);
     }
-    let power = read_digits(0, exponent)?;
-    let scale = find_scale(down, power, fraction.len())?;
+    let minus = exponent.minus;
+    let size = read_digits(0, exponent.size)?;
+    let scale = find_scale(Signed { minus, size }, fraction.len())?;
     Some(scale_by_ten(number, scale))
 }
 
@@ -58,17 +63,14 @@ fn is_read(number: u64) -> bool
 }
 
 /// The exponent less the number of places, where it is from -22 to 22.
-fn find_scale(down: bool, power: u64, places: usize) -> Option<i32>
-    requires { power < 10 ^ 4 }
-    ensures { result ≡ (if in_reach (under_sign down power -ℤ pos places) then Some (under_sign down power -ℤ pos places) else None) }
+fn find_scale(power: Signed<u64>, places: usize) -> Option<i32>
+    requires { power.size < 10 ^ 4 }
+    ensures { result ≡ (if in_reach (under_sign power.minus power.size -ℤ pos places) then Some (under_sign power.minus power.size -ℤ pos places) else None) }
 {
-    let power = if down { -(power as i32) } else { power as i32 };
-    let scale = power - places.min(MANY_PLACES) as i32;
-    if scale.unsigned_abs() <= REACH {
-        Some(scale)
-    } else {
-        None
-    }
+    let size = power.size as i32;
+    let exponent = if power.minus { -size } else { size };
+    let scale = exponent - places.min(MANY_PLACES) as i32;
+    (scale.unsigned_abs() <= REACH).then_some(scale)
 }
 
 /// A number times ten to the scale: one rounded product or quotient of exact floats.

@@ -2,6 +2,7 @@
 #![tactic(auto)]
 
 mod amount;
+mod digits;
 pub mod fault;
 pub mod parse;
 mod split;

@@ -5,9 +5,10 @@ ghost use Rattle.decimal.specs.Grammar.{Literal, literal};
 ghost use Rattle.decimal.specs.Answer.{Spells, Answered, OneLiteral};
 
 use crate::amount::read_amount;
+use crate::digits::Digits;
 use crate::fault::NumberFault;
 use crate::split::{split_digits, split_exponent, split_fraction};
-use number::sign::split_sign;
+use number::sign::{Signed, split_sign};
 
 /// The float nearest to the number that a text writes, at a tie the even one. The text is an
 /// optional sign, digits with at most one point and at least one digit on some side of it, and an
@@ -18,17 +19,18 @@ pub fn parse_float(text: &[u8]) -> Result<f64, NumberFault>
     ensures grammar { (l : Literal) → Spells text.now l → literal text.now ≡ Some l }
     ensures unique { OneLiteral }
 {
-    let (minus, body) = split_sign(text);
+    let Signed { minus, size: body } = split_sign(text);
     let (whole, rest) = split_digits(body);
     let (fraction, rest) = split_fraction(rest);
-    let Some((down, exponent)) = split_exponent(rest) else {
+    let exponent = split_exponent(rest).ok_or(NumberFault::NotANumber)?;
+    if whole.is_empty() && fraction.is_empty() {
         return Err(NumberFault::NotANumber);
+    }
+    let digits = Digits {
+        whole,
+        fraction,
+        exponent,
     };
-    if whole.is_empty() & fraction.is_empty() {
-        return Err(NumberFault::NotANumber);
-    }
-    match read_amount(whole, fraction, down, exponent) {
-        Some(size) => Ok(if minus { -size } else { size }),
-        None => Err(NumberFault::OutOfRange),
-    }
+    let size = read_amount(digits).ok_or(NumberFault::OutOfRange)?;
+    Ok(if minus { -size } else { size })
 }

@@ -4,19 +4,15 @@ ghost use Rattle.std.specs.Option.{option_map};
 ghost use Rattle.decimal.specs.Grammar.{places, front_digits, past_digits, front_fraction, past_fraction, exponent_of};
 ghost use Rattle.decimal.specs.Amount.{heading, power_of};
 
-use number::sign::split_sign;
+use number::sign::{Signed, split_sign};
 
 /// The digits that a text begins with, and what follows them.
 pub(crate) fn split_digits(text: &[u8]) -> (&[u8], &[u8])
     ensures digits { result.0.now ≡ front_digits text.now }
     ensures rest { result.1.now ≡ past_digits text.now }
 {
-    for (count, byte) in text.iter().enumerate() {
-        if !byte.is_ascii_digit() {
-            return text.split_at(count);
-        }
-    }
-    text.split_at(text.len())
+    let end = text.iter().position(|byte| !byte.is_ascii_digit());
+    text.split_at(end.unwrap_or(text.len()))
 }
 
 /// The digits after a point that a text begins with, and what follows them. No digits where it
@@ -31,31 +27,23 @@ pub(crate) fn split_fraction(text: &[u8]) -> (&[u8], &[u8])
     }
 }
 
-/// Whether an exponent is negative, and its digits; no digits where the text is empty. None where
-/// the text is no exponent from end to end.
-pub(crate) fn split_exponent(text: &[u8]) -> Option<(bool, &[u8])>
-    ensures { option_map {U = Bool × List ℕ} (λ p. (p.0, p.1.now)) result ≡ option_map heading (exponent_of text.now) }
+/// The sign and the digits of an exponent; no digits where the text is empty. None where the text is
+/// no exponent from end to end.
+pub(crate) fn split_exponent(text: &[u8]) -> Option<Signed<&[u8]>>
+    ensures { option_map {U = Bool × List ℕ} (λ p. (p.minus, p.size.now)) result ≡ option_map heading (exponent_of text.now) }
 {
     match text {
-        [] => Some((false, text)),
+        [] => Some(split_sign(text)),
         [b'e' | b'E', rest @ ..] => split_power(rest),
         _ => None,
     }
 }
 
-/// Whether a text begins with a minus, and its digits: an optional sign, at least one digit and
-/// nothing else.
-fn split_power(text: &[u8]) -> Option<(bool, &[u8])>
-    ensures { option_map {U = Bool × List ℕ} (λ p. (p.0, p.1.now)) result ≡ power_of text.now }
+/// A sign and the digits under it: an optional sign, at least one digit and nothing else.
+fn split_power(text: &[u8]) -> Option<Signed<&[u8]>>
+    ensures { option_map {U = Bool × List ℕ} (λ p. (p.minus, p.size.now)) result ≡ power_of text.now }
 {
-    let (minus, rest) = split_sign(text);
-    let (digits, tail) = split_digits(rest);
-    if digits.is_empty() {
-        return None;
-    }
-    if tail.is_empty() {
-        Some((minus, digits))
-    } else {
-        None
-    }
+    let power = split_sign(text);
+    let (digits, tail) = split_digits(power.size);
+    (!digits.is_empty() && tail.is_empty()).then_some(power)
 }

@@ -3,6 +3,7 @@ use Rattle.std.proofs.Common.{◌≡◌, ℕ, suc, ◌+◌, ◌-◌, ◌*◌, �
 use lib.Signed.{mag}
 use Rattle.std.specs.Char.{is_ascii_digit}
 use Rattle.std.specs.Option.{option_map, is_some, IfSome}
+use Rattle.std.specs.Bool.{then_some}
 use Rattle.std.specs.Str.{all_ascii_digits}
 use Rattle.std.proofs.lemmas.Bool.{ltb-false, lt-ltb, le-ltb, leb-true, eqb-true, ne_eqb, cond-true, cond-false, cases_Bool, and_from, and_right, and_parts, and_cases, or_left, or_right, or_from}
 use Rattle.std.proofs.lemmas.Str.Parse.{IsNumeralModel, numerals_by_fold, tells_all_ascii_digits, digits_value_short}
@@ -55,6 +56,11 @@ large_value n ds a e = elim (and_cases (all_ascii_digits ds) (ltb (value_after n
   | inl b ↦ absurd (true≢false (sym a ∙ b))
   | inr l ↦ ltb-false _ _ l
 ]
+
+-- what `then_some` gives, where each answer of the test agrees
+pub told : {X Y : Type 0} (f : X → Y) (b : Bool) (x : X) (r : Option X) (o : Option Y) → r ≡ then_some b x → (b ≡ true → Some (f x) ≡ o) → (b ≡ false → None ≡ o) → option_map f r ≡ o
+told f true x r o e t n = ap (option_map f) e ∙ t refl
+told f false x r o e t n = ap (option_map f) e ∙ n refl
 
 -- a number that is narrowed where its width has it is kept whole
 pub narrowed : {X : Type 0} (number : X → ℤ) (r : Option X) (w : Wide) (z : ℤ) → is_some r ≡ fits w z → IfSome r (λ x. number x ≡ narrow_whole w z) → option_map number r ≡ if_fits w z

@@ -8,10 +8,8 @@ use lib.Ieee.Back.{round_whole}
 use Rattle.std.proofs.lemmas.Bool.{cases_eq, eq-eqb, ne_eqb, eqb-true, eqb-false, lt-ltb, ltb-true, and_parts, cond-true, cond-false, and_from}
 use Rattle.std.proofs.lemmas.Bool.Decides.{nat_tests}
 use Rattle.std.specs.Float.{float_with_sign, is_sign_negative}
-use Rattle.std.specs.Bool.{then_some}
 use Rattle.std.specs.Option.{option_map}
 use Rattle.number.specs.Forms.{whole_size, signed_text}
-use Rattle.number.specs.declared.sign.Signed.{Signed}
 use Rattle.number.specs.Back.{ReadsBack}
 use Rattle.number.specs.Numerals.{whole_of_text}
 use Rattle.number.specs.Widths.{under_sign, fits, signed}
@@ -88,11 +86,6 @@ no_whole (fin t m d) size n s e f =
     let u : (A % D ≡ 0 → A / D < 2 ^ 53 → ⊥) = λ p q. let i : n ≡ A / D = omega arith in c (omega arith) (ap (λ (z : ℕ). z * D) i ∙ omega arith) in
     let z : (eqb (A % D) 0 && ltb (A / D) (2 ^ 53)) ≡ false = grind (arith, nat_tests) in
     sym (cond-false _ _ _ z)
-
--- a sign and a size told by a test, where each answer of the test agrees
-pub told : (b : Bool) (s : Signed ℕ) (r : Option (Signed ℕ)) (o : Option (Bool × ℕ)) → r ≡ then_some b s → (b ≡ true → Some (s.minus, s.size) ≡ o) → (b ≡ false → None ≡ o) → option_map (λ t. (t.minus, t.size)) r ≡ o
-told true s r o e t f = ap (option_map (λ t. (t.minus, t.size))) e ∙ t refl
-told false s r o e t f = ap (option_map (λ t. (t.minus, t.size))) e ∙ f refl
 
 -- a zero equals the zero without a sign
 zero_zero : (m : ℕ) (e : ℤ) → m * up e ≡ 0 → eq (round binary64 false 0 1) (fin true m e) ≡ true

@@ -6,45 +6,45 @@ use Rattle.decimal.proofs.Amounts.{long_exponent, large_before, large_after, at_
 use Rattle.decimal.proofs.amount.read_amount.Goals as goal
 
 pub returns-then-exponent-gt-EXPONENT_DIGITS : goal.returns-then-exponent-gt-EXPONENT_DIGITS
-returns-then-exponent-gt-EXPONENT_DIGITS c = long_exponent c.args.whole.now c.args.fraction.now c.args.exponent.now c.args.down c.if-exponent-gt-EXPONENT_DIGITS.true
+returns-then-exponent-gt-EXPONENT_DIGITS c = long_exponent c.args.digits.whole.now c.args.digits.fraction.now c.args.digits.exponent.size.now c.args.digits.exponent.minus c.if-exponent-gt-EXPONENT_DIGITS.true
 
 pub returns-in_err-before_point : goal.returns-in_err-before_point
 returns-in_err-before_point c =
-    c.from_residual.ensures ∙ large_before c.args.whole.now c.args.fraction.now c.args.exponent.now c.args.down c.requires.wholes c.in_err-before_point.ensures
+    c.from_residual.ensures ∙ large_before c.args.digits.whole.now c.args.digits.fraction.now c.args.digits.exponent.size.now c.args.digits.exponent.minus c.args.digits.wholes c.in_err-before_point.ensures
 
 pub returns-in_err-number : goal.returns-in_err-number
 returns-in_err-number c =
     c.from_residual-in_err-number.ensures
-    ∙ large_after c.args.whole.now c.args.fraction.now c.args.exponent.now c.args.down c.in_ok-before_point.before_point c.in_ok-before_point.ensures c.requires.fractions c.in_err-number.ensures
+    ∙ large_after c.args.digits.whole.now c.args.digits.fraction.now c.args.digits.exponent.size.now c.args.digits.exponent.minus c.in_ok-before_point.before_point c.in_ok-before_point.ensures c.args.digits.fractions c.in_err-number.ensures
 
 pub returns-then-not-is_read : goal.returns-then-not-is_read
-returns-then-not-is_read c = at_limit c.args.whole.now c.args.fraction.now c.args.exponent.now c.args.down c.in_ok-before_point.before_point c.in_ok-before_point.ensures c.in_ok-number.number c.in_ok-number.ensures (ltb-false _ _ (sym c.if-not-is_read.ensures))
+returns-then-not-is_read c = at_limit c.args.digits.whole.now c.args.digits.fraction.now c.args.digits.exponent.size.now c.args.digits.exponent.minus c.in_ok-before_point.before_point c.in_ok-before_point.ensures c.in_ok-number.number c.in_ok-number.ensures (ltb-false _ _ (sym c.if-not-is_read.ensures))
 
 pub returns-then-number-eq0 : goal.returns-then-number-eq0
-returns-then-number-eq0 c = at_zero c.args.whole.now c.args.fraction.now c.args.exponent.now c.args.down c.in_ok-before_point.before_point c.in_ok-before_point.ensures c.in_ok-number.number c.in_ok-number.ensures c.if-exponent-gt-EXPONENT_DIGITS.false c.if-number-eq0.true
+returns-then-number-eq0 c = at_zero c.args.digits.whole.now c.args.digits.fraction.now c.args.digits.exponent.size.now c.args.digits.exponent.minus c.in_ok-before_point.before_point c.in_ok-before_point.ensures c.in_ok-number.number c.in_ok-number.ensures c.if-exponent-gt-EXPONENT_DIGITS.false c.if-number-eq0.true
 
-pub returns-in_err-power : goal.returns-in_err-power
-returns-in_err-power c =
-    absurd (power_read c.args.whole.now c.args.fraction.now c.args.exponent.now c.args.down c.in_ok-before_point.before_point c.in_ok-before_point.ensures c.in_ok-number.number c.in_ok-number.ensures c.if-exponent-gt-EXPONENT_DIGITS.false c.requires.exponents c.in_err-power.ensures)
+pub returns-in_err-size : goal.returns-in_err-size
+returns-in_err-size c =
+    absurd (power_read c.args.digits.whole.now c.args.digits.fraction.now c.args.digits.exponent.size.now c.args.digits.exponent.minus c.in_ok-before_point.before_point c.in_ok-before_point.ensures c.in_ok-number.number c.in_ok-number.ensures c.if-exponent-gt-EXPONENT_DIGITS.false c.args.digits.exponents c.in_err-size.ensures)
 
 pub find_scale-requires : goal.find_scale-requires
-find_scale-requires c = power_short c.args.whole.now c.args.fraction.now c.args.exponent.now c.args.down c.in_ok-before_point.before_point c.in_ok-before_point.ensures c.in_ok-number.number c.in_ok-number.ensures c.if-exponent-gt-EXPONENT_DIGITS.false (ltb-true _ _ (sym c.if-not-is_read.ensures)) c.if-number-eq0.false c.in_ok-power.power c.in_ok-power.ensures c.requires.exponents
+find_scale-requires c = power_short c.args.digits.whole.now c.args.digits.fraction.now c.args.digits.exponent.size.now c.args.digits.exponent.minus c.in_ok-before_point.before_point c.in_ok-before_point.ensures c.in_ok-number.number c.in_ok-number.ensures c.if-exponent-gt-EXPONENT_DIGITS.false (ltb-true _ _ (sym c.if-not-is_read.ensures)) c.if-number-eq0.false c.in_ok-size.size c.in_ok-size.ensures c.args.digits.exponents
 
 pub returns-in_err-scale : goal.returns-in_err-scale
 returns-in_err-scale c =
     c.from_residual-in_err-scale.ensures
-    ∙ out_of_reach c.args.whole.now c.args.fraction.now c.args.exponent.now c.args.down c.in_ok-before_point.before_point c.in_ok-before_point.ensures c.in_ok-number.number c.in_ok-number.ensures c.if-exponent-gt-EXPONENT_DIGITS.false (ltb-true _ _ (sym c.if-not-is_read.ensures)) c.if-number-eq0.false c.in_ok-power.power c.in_ok-power.ensures c.in_err-scale.ensures
+    ∙ out_of_reach c.args.digits.whole.now c.args.digits.fraction.now c.args.digits.exponent.size.now c.args.digits.exponent.minus c.in_ok-before_point.before_point c.in_ok-before_point.ensures c.in_ok-number.number c.in_ok-number.ensures c.if-exponent-gt-EXPONENT_DIGITS.false (ltb-true _ _ (sym c.if-not-is_read.ensures)) c.if-number-eq0.false c.in_ok-size.size c.in_ok-size.ensures c.in_err-scale.ensures
 
 pub scale_by_ten-requires : goal.scale_by_ten-requires
 scale_by_ten-requires c =
     let f : SFits w32 c.in_ok-scale.scale = search rules in
     record {
       small = ltb-true _ _ (sym c.if-not-is_read.ensures);
-      reached = ap in_reach (to_z-of_z w32 c.in_ok-scale.scale f) ∙ reached c.args.whole.now c.args.fraction.now c.args.exponent.now c.args.down c.in_ok-before_point.before_point c.in_ok-before_point.ensures c.in_ok-number.number c.in_ok-number.ensures c.if-exponent-gt-EXPONENT_DIGITS.false (ltb-true _ _ (sym c.if-not-is_read.ensures)) c.if-number-eq0.false c.in_ok-power.power c.in_ok-power.ensures c.in_ok-scale.scale c.in_ok-scale.ensures;
+      reached = ap in_reach (to_z-of_z w32 c.in_ok-scale.scale f) ∙ reached c.args.digits.whole.now c.args.digits.fraction.now c.args.digits.exponent.size.now c.args.digits.exponent.minus c.in_ok-before_point.before_point c.in_ok-before_point.ensures c.in_ok-number.number c.in_ok-number.ensures c.if-exponent-gt-EXPONENT_DIGITS.false (ltb-true _ _ (sym c.if-not-is_read.ensures)) c.if-number-eq0.false c.in_ok-size.size c.in_ok-size.ensures c.in_ok-scale.scale c.in_ok-scale.ensures;
     }
 
 pub returns : goal.returns
 returns c =
     let f : SFits w32 c.in_ok-scale.scale = search rules in
-    measured c.args.whole.now c.args.fraction.now c.args.exponent.now c.args.down c.in_ok-before_point.before_point c.in_ok-before_point.ensures c.in_ok-number.number c.in_ok-number.ensures c.if-exponent-gt-EXPONENT_DIGITS.false (ltb-true _ _ (sym c.if-not-is_read.ensures)) c.if-number-eq0.false c.in_ok-power.power c.in_ok-power.ensures c.in_ok-scale.scale c.in_ok-scale.ensures
+    measured c.args.digits.whole.now c.args.digits.fraction.now c.args.digits.exponent.size.now c.args.digits.exponent.minus c.in_ok-before_point.before_point c.in_ok-before_point.ensures c.in_ok-number.number c.in_ok-number.ensures c.if-exponent-gt-EXPONENT_DIGITS.false (ltb-true _ _ (sym c.if-not-is_read.ensures)) c.if-number-eq0.false c.in_ok-size.size c.in_ok-size.ensures c.in_ok-scale.scale c.in_ok-scale.ensures
     c.scale_by_ten.result _ (to_z-of_z w32 c.in_ok-scale.scale f) c.scale_by_ten.ensures

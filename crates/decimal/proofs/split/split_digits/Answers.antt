@@ -1,21 +1,15 @@
-use Rattle.std.proofs.Common.{sym, ap, ◌∙◌}
-use lib.Seq.{take-length, drop-length}
-use Rattle.std.specs.Str.{all_ascii_digits}
-use Rattle.std.proofs.lemmas.List.{take_all}
-use Rattle.decimal.proofs.Parting.{all_more, ends_at, ends_all}
+use Rattle.std.proofs.Common.{◌≡◌, ℕ, not, length, take, drop, Option, ap, ◌∙◌, rules, tests}
+use Rattle.std.specs.Char.{is_ascii_digit}
+use Rattle.std.specs.Option.{unwrap_or}
+use Rattle.std.proofs.lemmas.Iterator.{YieldsList-from_slice}
+use Rattle.std.proofs.lemmas.Iterator.Search.{position_from_yields_List}
+use Rattle.decimal.proofs.Parting.{end, end_is, ends_at}
 use Rattle.decimal.proofs.split.split_digits.Goals as goal
-
-pub returns-then-not-is_ascii_digit : goal.returns-then-not-is_ascii_digit
-returns-then-not-is_ascii_digit c =
-    let p = ends_at c.args.text.now c.loop-count.count c.loop-count-test.true c.loop-count.invariant (sym c.if-not-is_ascii_digit.ensures.value) in
-    record { digits = c.split_at.ensures.front ∙ p.0; rest = c.split_at.ensures.back ∙ p.1 }
-
-pub loop-count-preserved : goal.loop-count-preserved
-loop-count-preserved c =
-    all_more c.args.text.now c.loop-count.count c.loop-count-test.true c.loop-count.invariant (sym c.if-not-is_ascii_digit.ensures.value)
 
 pub returns : goal.returns
 returns c =
     let text = c.args.text.now in
-    let p = ends_all text (sym (ap all_ascii_digits (take_all c.loop-count.count text c.loop-count-test.false)) ∙ c.loop-count.invariant) in
-    record { digits = c.split_at-2.ensures.front ∙ (take-length text ∙ p.0); rest = c.split_at-2.ensures.back ∙ (drop-length text ∙ p.1) }
+    let found = position_from_yields_List (λ b. not (is_ascii_digit b)) _ _ c.position-end.result c.position-end.ensures.ran (YieldsList-from_slice text cc) (λ x b q k. search (rules, tests)) in
+    let at : c.unwrap_or.result ≡ end text = c.unwrap_or.ensures ∙ (ap (λ (o : Option ℕ). unwrap_or o (length text)) found ∙ end_is text) in
+    let p = ends_at text in
+    record { digits = c.split_at.ensures.front ∙ (ap (λ (n : ℕ). take n text) at ∙ p.0); rest = c.split_at.ensures.back ∙ (ap (λ (n : ℕ). drop n text) at ∙ p.1) }

@@ -1,18 +1,21 @@
-use Rattle.std.proofs.Common.{sym}
+use Rattle.std.proofs.Common.{sym, ◌∙◌, rules}
 use Rattle.std.proofs.lemmas.Bool.{eqb-true, eqb-false}
+use Rattle.number.proofs.Reading.{told}
 use Rattle.decimal.proofs.Parting.{power_more, power_found}
 use Rattle.decimal.proofs.split.split_power.Goals as goal
+use Rattle.decimal.proofs.split.split_power.Goals.{then-not-is_empty, else-not-is_empty}
 
-pub returns-then-is_empty-2 : goal.returns-then-is_empty-2
-returns-then-is_empty-2 c =
-    let s = c.split_sign-minus in
+pub returns : goal.returns
+returns c =
+    let text = c.args.text.now in
+    let s = c.split_sign-power in
     let d = c.split_digits in
-    power_found c.args.text.now s.result.1.now d.result.0.now s.ensures.rest d.ensures.digits d.result.1.now s.result.0 s.ensures.minus d.ensures.rest
-    (eqb-true _ _ (sym c.if-is_empty-2.ensures)) (eqb-false _ _ (sym c.if-is_empty.ensures))
-
-pub returns-else-is_empty-2 : goal.returns-else-is_empty-2
-returns-else-is_empty-2 c =
-    let s = c.split_sign-minus in
-    let d = c.split_digits in
-    power_more c.args.text.now s.result.1.now d.result.0.now s.ensures.rest d.ensures.digits d.result.1.now d.ensures.rest
-    (eqb-false _ _ (sym c.if-is_empty-2.ensures))
+    elim c.if-not-is_empty.branch [
+      | then-not-is_empty w ↦
+          told _ _ _ _ _ c.then_some.ensures
+          (λ t. power_found text s.result.size.now d.result.0.now s.ensures.rest d.ensures.digits d.result.1.now s.result.minus s.ensures.minus d.ensures.rest
+          (eqb-true _ _ (sym w.is_empty-then-not-is_empty.ensures ∙ (sym w.then_some-is ∙ t))) (eqb-false _ _ (sym w.if-not-is_empty.ensures)))
+          (λ f. power_more text s.result.size.now d.result.0.now s.ensures.rest d.ensures.digits d.result.1.now d.ensures.rest
+          (eqb-false _ _ (sym w.is_empty-then-not-is_empty.ensures ∙ (sym w.then_some-is ∙ f))))
+      | else-not-is_empty w ↦ search rules
+    ]
