@@ -3,7 +3,7 @@ use Rattle.std.proofs.Common.{◌≡◌, ℕ, ◌^◌, ◌<◌, ◌≤◌, Bool,
 use lib.Ieee.{Float, binary64, of_bits, neg}
 use Rattle.std.specs.Option.{option_map}
 use Rattle.std.specs.Str.{all_ascii_digits}
-use Rattle.std.proofs.lemmas.Bool.{le-leb, lt-leb, lt-ltb, le-ltb, eq-eqb, ne_eqb, cond-true, cond-false, and_from, and_left, and_right, or_left, or_right, or_from}
+use Rattle.std.proofs.lemmas.Bool.{le-leb, lt-ltb, le-ltb, eq-eqb, ne_eqb, cond-true, cond-false, and_from, and_left, and_right, or_left, or_right, or_from}
 use Rattle.number.specs.Numerals.{value_after, digits_after}
 use Rattle.number.specs.Widths.{under_sign}
 use Rattle.number.proofs.Reading.{value_append, value_ge, read_value, large_value, value_below, some_is, none_is}
@@ -11,10 +11,6 @@ use Rattle.decimal.specs.Amount.{scale, in_reach, within, nearest_decimal, amoun
 use Rattle.decimal.proofs.Tens.{zero_scaled, neg_decimal}
 
 module _ (whole fraction exponent : List ℕ) (down : Bool) where
-  -- more than four exponent digits
-  pub long_exponent : 4 < length exponent → None ≡ amount false whole fraction down exponent
-  long_exponent h = sym (cond-false _ _ _ (and_left _ _ (lt-leb _ _ h)))
-
   -- a number of 10 ^ 15 or more
   pub too_large : 10 ^ 15 ≤ value_after 0 (whole ++ fraction) → None ≡ amount false whole fraction down exponent
   too_large h = sym (cond-false _ _ _ (and_right (leb (length exponent) 4) _ (and_left _ _ (le-ltb _ _ h))))

@@ -1,17 +1,16 @@
 -- Number text taken apart, part by part.
-use Rattle.std.proofs.Common.{◌≡◌, ℕ, suc, ◌+◌, ◌-◌, ◌≤◌, Bool, true, false, not, cond, ◌&&◌, ◌||◌, eqb, List, [], ◌∷◌, ◌++◌, length, get_or, take, drop, Some, None, Option, sym, refl, ap, ◌∙◌, inl, inr, true≢false, append-nil, arith}
-use lib.Seq.{take-length}
+use Rattle.std.proofs.Common.{◌≡◌, ℕ, suc, ◌+◌, Bool, true, false, not, cond, ◌&&◌, ◌||◌, eqb, List, [], ◌∷◌, ◌++◌, length, take, drop, Some, None, Option, sym, refl, ap, ◌∙◌, inl, inr, true≢false, append-nil, arith}
 use Rattle.std.specs.Char.{is_ascii_digit}
 use Rattle.std.specs.Str.{all_ascii_digits}
 use Rattle.std.specs.List.{position, position_or_len}
-use Rattle.std.specs.Option.{option_map, unwrap_or}
+use Rattle.std.specs.Option.{unwrap_or}
 use Rattle.std.proofs.lemmas.List.{nil_from_length}
 use Rattle.std.proofs.lemmas.List.Sums.{prefix_len-le-length}
-use Rattle.std.proofs.lemmas.Bool.{lt-ltb, le-ltb, cases_lt, cases_eq, eq-eqb, cond-true, cond-false, cases_Bool, and_from, and_right, and_parts, or_left, or_right}
+use Rattle.std.proofs.lemmas.Bool.{lt-ltb, le-ltb, cases_lt, cond-true, cond-false, cases_Bool, and_from, and_parts}
 use Rattle.number.specs.Numerals.{is_minus, sign_of, after_sign, numeral}
 use Rattle.number.proofs.Reading.{some_is}
-use Rattle.decimal.specs.Amount.{heading, power_of}
-use Rattle.decimal.specs.Grammar.{pointless, point, Exponent, absent, power, places, sound_exponent, front_digits, past_digits, front_fraction, past_fraction, exponent_of}
+use Rattle.decimal.specs.Amount.{power_of}
+use Rattle.decimal.specs.Grammar.{Exponent, absent, power, sound_exponent, front_digits, past_digits, exponent_of}
 
 -- digits one after the other
 pub all_append : (xs ys : List ℕ) → all_ascii_digits (xs ++ ys) ≡ (all_ascii_digits xs && all_ascii_digits ys)
@@ -84,19 +83,6 @@ pub ends_all : (bs : List ℕ) → all_ascii_digits bs ≡ true → (bs ≡ fron
 ends_all bs a =
     (sym (front_is bs [] a refl) ∙ ap front_digits (append-nil bs), sym (past_is bs [] a refl) ∙ ap past_digits (append-nil bs))
 
--- a list without its first element
-rest_is : (b : ℕ) (bs : List ℕ) → take (length (b ∷ bs) - 1) (drop 1 (b ∷ bs)) ≡ bs
-rest_is b bs = ap (λ (k : ℕ). take k bs) (omega arith) ∙ take-length bs
-
--- digits after the point are the fraction in front
-pub point_off : (text : List ℕ) → 1 ≤ length text → get_or text 0 0 ≡ 46
-    → (front_digits (take (length text - 1) (drop 1 text)) ≡ places (front_fraction text)) × (past_digits (take (length text - 1) (drop 1 text)) ≡ past_fraction text)
-point_off [] h e = let z : ⊥ = omega arith in absurd z
-point_off (b ∷ bs) h e = (
-  ap front_digits (rest_is b bs) ∙ sym (ap places (cond-true (eqb b 46) (point (front_digits bs)) pointless (eq-eqb b 46 e))),
-  ap past_digits (rest_is b bs) ∙ sym (cond-true _ _ _ (eq-eqb b 46 e)),
-)
-
 -- bytes after which no digits are left are digits
 pub past_none : (bs : List ℕ) → length (past_digits bs) ≡ 0 → front_digits bs ≡ bs
 past_none bs e = sym (append-nil (front_digits bs)) ∙ (ap (λ (l : List ℕ). front_digits bs ++ l) (sym (nil_from_length (past_digits bs) e)) ∙ front_past bs)
@@ -130,21 +116,6 @@ module _ (bs rest ds : List ℕ) (r : rest ≡ after_sign bs) (d : ds ≡ front_
       let all : front_digits rest ≡ rest = past_none rest (sym (ap length t) ∙ h) in
       let a : numeral rest ≡ true = numeral_some rest (λ e. n (ap length (d ∙ all) ∙ e)) (sym (ap all_ascii_digits all) ∙ all_front rest) in
       (λ i. Some (s i, r i)) ∙ sym (cond-true _ _ _ (ap numeral (sym r) ∙ a))
-
--- the heading of an exponent is that of what follows its letter
-heading_of : (b : ℕ) (bs : List ℕ) → (eqb b 101 || eqb b 69) ≡ true → power_of bs ≡ option_map heading (exponent_of (b ∷ bs))
-heading_of b bs e = elim (cases_Bool (numeral (after_sign bs))) [
-  | inl n ↦ cond-true _ _ _ n ∙ sym (ap (option_map heading) (cond-true _ _ _ (and_from _ _ e n)))
-  | inr n ↦ cond-false _ _ _ n ∙ sym (ap (option_map heading) (cond-false ((eqb b 101 || eqb b 69) && numeral (after_sign bs)) _ _ (and_right (eqb b 101 || eqb b 69) _ n)))
-]
-
--- an exponent after its letter
-pub letter_off : (text : List ℕ) → 1 ≤ length text → ((get_or text 0 0 ≡ 69 → ⊥) → get_or text 0 0 ≡ 101) → power_of (take (length text - 1) (drop 1 text)) ≡ option_map heading (exponent_of text)
-letter_off [] h e = let z : ⊥ = omega arith in absurd z
-letter_off (b ∷ bs) h e = ap power_of (rest_is b bs) ∙ heading_of b bs (elim (cases_eq b 69) [
-  | inl q ↦ or_right (eqb b 101) (eqb b 69) (eq-eqb b 69 q)
-  | inr n ↦ or_left (eqb b 101) (eqb b 69) (eq-eqb b 101 (e n))
-])
 
 -- an exponent that was found has digits
 pub exponent_sound : (bs : List ℕ) (x : Exponent) → exponent_of bs ≡ Some x → sound_exponent x ≡ true

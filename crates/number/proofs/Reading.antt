@@ -112,43 +112,13 @@ pub numeral_bare : (ds : List ℕ) → numeral ds ≡ true → Bare ds
 numeral_bare [] e = absurd (true≢false (sym e))
 numeral_bare (d ∷ ds) e = digit_bare d ds (and_parts (is_ascii_digit d) (all_ascii_digits ds) e).0
 
--- a sign that was not refused is allowed
-allowed_by : (m h : Bool) → (m && not h) ≡ false → (not m || h) ≡ true
-allowed_by true true e = refl
-allowed_by true false e = absurd (true≢false e)
-allowed_by false h e = refl
-
--- and one that is allowed is not refused
+-- a sign that is allowed is not refused
 refused_by : (m h : Bool) → (not m || h) ≡ true → (m && not h) ≡ false
 refused_by true true e = refl
 refused_by true false e = absurd (true≢false (sym e))
 refused_by false h e = refl
 
--- Some where a test failed, and where one passed
-unrefused : {A : Type 0} (b : Bool) (o : Option A) (z : A) → cond b None o ≡ Some z → (b ≡ false) × (o ≡ Some z)
-unrefused true o z e = let k : ◌≡◌ {A = ℕ} 0 1 = cc in let y : ⊥ = omega arith in absurd y
-unrefused false o z e = (refl, e)
-
--- what is read from a text, the text writes
-pub written : (w : Wide) (text : List ℕ) (z : ℤ) → whole_of_text w text ≡ Some z → Writes w text z
-written w text z e =
-    let m = is_minus (sign_of text) in
-    let ds = after_sign text in
-    let p = unrefused (m && not (has_sign w)) (digits_in w m ds) z e in
-    let v = under_sign m (value_after 0 ds) in
-    let q = some_is (numeral ds && fits w v) v z (sym p.1) in
-    let r = and_parts (numeral ds) (fits w v) q.0 in
-    record {
-      sign = sign_of text;
-      digits = ds;
-      whole = sym (sign_front text);
-      some = r.0;
-      allowed = allowed_by m (has_sign w) p.0;
-      value = q.1;
-      room = sym (ap (fits w) q.1) ∙ r.1;
-    }
-
--- and what it writes is read
+-- what a text writes is read from it
 pub read : (w : Wide) (text : List ℕ) (z : ℤ) → Writes w text z → whole_of_text w text ≡ Some z
 read w text z h =
     let s = h.sign in

@@ -1,12 +1,8 @@
-use Rattle.std.proofs.Common.{sym, ap, ◌∙◌, w32, SFits, rules}
+use Rattle.std.proofs.Common.{sym, ◌∙◌, w32, SFits, rules}
 use mir.ValLaws.{to_z-of_z}
 use Rattle.std.proofs.lemmas.Bool.{ltb-true, ltb-false}
-use Rattle.decimal.specs.Amount.{in_reach}
-use Rattle.decimal.proofs.Amounts.{long_exponent, large_before, large_after, at_limit, at_zero, power_read, power_short, out_of_reach, reached, measured}
+use Rattle.decimal.proofs.Amounts.{large_before, large_after, at_limit, at_zero, power_read, power_short, out_of_reach, measured}
 use Rattle.decimal.proofs.amount.read_amount.Goals as goal
-
-pub returns-then-exponent-gt-EXPONENT_DIGITS : goal.returns-then-exponent-gt-EXPONENT_DIGITS
-returns-then-exponent-gt-EXPONENT_DIGITS c = long_exponent c.args.digits.whole.now c.args.digits.fraction.now c.args.digits.exponent.size.now c.args.digits.exponent.minus c.if-exponent-gt-EXPONENT_DIGITS.true
 
 pub returns-in_err-before_point : goal.returns-in_err-before_point
 returns-in_err-before_point c =
@@ -34,14 +30,6 @@ pub returns-in_err-scale : goal.returns-in_err-scale
 returns-in_err-scale c =
     c.from_residual-in_err-scale.ensures
     ∙ out_of_reach c.args.digits.whole.now c.args.digits.fraction.now c.args.digits.exponent.size.now c.args.digits.exponent.minus c.in_ok-before_point.before_point c.in_ok-before_point.ensures c.in_ok-number.number c.in_ok-number.ensures c.if-exponent-gt-EXPONENT_DIGITS.false (ltb-true _ _ (sym c.if-not-is_read.ensures)) c.if-number-eq0.false c.in_ok-size.size c.in_ok-size.ensures c.in_err-scale.ensures
-
-pub scale_by_ten-requires : goal.scale_by_ten-requires
-scale_by_ten-requires c =
-    let f : SFits w32 c.in_ok-scale.scale = search rules in
-    record {
-      small = ltb-true _ _ (sym c.if-not-is_read.ensures);
-      reached = ap in_reach (to_z-of_z w32 c.in_ok-scale.scale f) ∙ reached c.args.digits.whole.now c.args.digits.fraction.now c.args.digits.exponent.size.now c.args.digits.exponent.minus c.in_ok-before_point.before_point c.in_ok-before_point.ensures c.in_ok-number.number c.in_ok-number.ensures c.if-exponent-gt-EXPONENT_DIGITS.false (ltb-true _ _ (sym c.if-not-is_read.ensures)) c.if-number-eq0.false c.in_ok-size.size c.in_ok-size.ensures c.in_ok-scale.scale c.in_ok-scale.ensures;
-    }
 
 pub returns : goal.returns
 returns c =
