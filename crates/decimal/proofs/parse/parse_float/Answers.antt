@@ -31,8 +31,8 @@ returns-in_err-exponent c =
     let v : numbered c.from_residual.result ≡ float_of_text c.args.text.now = search rules in
     record { value = v; answered = answered c.args.text.now _ v; grammar = grammar c.args.text.now; unique = one_literal }
 
-pub returns-then-is_empty-2 : goal.returns-then-is_empty-2
-returns-then-is_empty-2 c =
+pub returns-then-is_empty : goal.returns-then-is_empty
+returns-then-is_empty c =
     let v : Err 13 ≡ float_of_text c.args.text.now = grind (arith, common_steps) in
     record { value = v; answered = answered c.args.text.now (Err NotANumber) v; grammar = grammar c.args.text.now; unique = one_literal }
 
