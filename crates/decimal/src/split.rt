@@ -33,7 +33,10 @@ pub(crate) fn split_exponent(text: &[u8]) -> Option<Signed<&[u8]>>
     ensures { option_map {U = Bool × List ℕ} (λ p. (p.minus, p.size.now)) result ≡ option_map heading (exponent_of text.now) }
 {
     match text {
-        [] => Some(split_sign(text)),
+        [] => Some(Signed {
+            minus: false,
+            size: text,
+        }),
         [b'e' | b'E', rest @ ..] => split_power(rest),
         _ => None,
     }
