@@ -1,4 +1,6 @@
 // The eight errors that a cell may hold, in the order in which a sheet file numbers them.
+ghost use Rattle.datatype.specs.Errors.{Numbered};
+
 #[derive(Clone, Copy, PartialEq, Eq, Debug)]
 pub enum CellErrorType {
     /// division by zero
@@ -17,4 +19,28 @@ pub enum CellErrorType {
     Value,
     /// data still being fetched
     GettingData,
+}
+
+/// A number that no error has.
+#[derive(Clone, Copy, PartialEq, Eq, Debug)]
+pub struct UnknownErrorType(pub u64);
+
+impl TryFrom<u64> for CellErrorType {
+    type Error = UnknownErrorType;
+
+    ghost try_from_gives = { Numbered };
+
+    fn try_from(number: u64) -> Result<CellErrorType, UnknownErrorType> {
+        match number {
+            0 => Ok(CellErrorType::Div0),
+            1 => Ok(CellErrorType::NA),
+            2 => Ok(CellErrorType::Name),
+            3 => Ok(CellErrorType::Null),
+            4 => Ok(CellErrorType::Num),
+            5 => Ok(CellErrorType::Ref),
+            6 => Ok(CellErrorType::Value),
+            7 => Ok(CellErrorType::GettingData),
+            _ => Err(UnknownErrorType(number)),
+        }
+    }
 }
