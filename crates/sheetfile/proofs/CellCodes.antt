@@ -1,29 +1,20 @@
--- The nine bytes of a cell, read where they lie.
-use Rattle.std.proofs.Common.{◌≡◌, ℕ, ◌+◌, ◌≤◌, List, length, get_or, drop, sym, refl, ap, ◌∙◌, arith}
+-- The nine bytes of a cell.
+use Rattle.std.proofs.Common.{◌≡◌, ℕ, List, [], ◌∷◌, length, get_or, take, drop, ap, ◌∙◌, arith, length-drop}
+use Rattle.std.proofs.lemmas.List.{take_all}
 use Rattle.datatype.specs.declared.data.TextPart.{TextPart}
 use Rattle.sheetfile.specs.Bytes.{valued, part}
 use Rattle.sheetfile.specs.CellCode.{cell_of, decoded}
-use Rattle.sheetfile.proofs.LittleEndian.{part_more, halves}
 
 abbrev text_at : ℕ → ℕ → TextPart
 text_at place len = record { place = place; len = len }
 
-pub decoded_at : (file : List ℕ) (at : ℕ) → at + 9 ≤ length file → decoded (part at 9 file) ≡ cell_of (get_or file at 0) (valued (part (at + 1) 8 file)) (text_at (valued (part (at + 1) 4 file)) (valued (part (at + 5) 4 file)))
+-- a cell by its kind, and by the numbers that the eight bytes after it stand for
+pub decoded_by : (bytes content : List ℕ) (n place len : ℕ) → length bytes ≡ 9 → content ≡ drop 1 bytes → n ≡ valued content → place ≡ valued (part 0 4 content) → len ≡ valued (part 4 4 content) → cell_of (get_or bytes 0 0) n (text_at place len) ≡ decoded bytes
 unfolding decoded
-decoded_at file at inside =
-    let kind = get_or file at 0 in
-    let bytes = part (at + 1) 8 file in
-    let two = halves file (at + 1) in
-    let five : at + 1 + 4 ≡ at + 5 = omega arith in
-    ap decoded (part_more 8 at (at + 1) file refl (omega arith))
-    ∙ ap (λ l. cell_of kind (valued bytes) (text_at (valued l) (valued (drop 4 bytes)))) two.0
-    ∙ ap (λ l. cell_of kind (valued bytes) (text_at (valued (part (at + 1) 4 file)) (valued l))) two.1
-    ∙ ap (λ n. cell_of kind (valued bytes) (text_at (valued (part (at + 1) 4 file)) (valued (part n 4 file)))) five
-
--- the same by numbers that were read apart
-pub decoded_by : (file : List ℕ) (at n place len : ℕ) → at + 9 ≤ length file → n ≡ valued (part (at + 1) 8 file) → place ≡ valued (part (at + 1) 4 file) → len ≡ valued (part (at + 5) 4 file) → cell_of (get_or file at 0) n (text_at place len) ≡ decoded (part at 9 file)
-decoded_by file at n place len inside a b c =
-    ap (λ m. cell_of (get_or file at 0) m (text_at place len)) a
-    ∙ ap (λ m. cell_of (get_or file at 0) (valued (part (at + 1) 8 file)) (text_at m len)) b
-    ∙ ap (λ m. cell_of (get_or file at 0) (valued (part (at + 1) 8 file)) (text_at (valued (part (at + 1) 4 file)) m)) c
-    ∙ sym (decoded_at file at inside)
+decoded_by [] content n place len long is a b d = absurd (omega arith)
+decoded_by (kind ∷ bs) content n place len long is a b d =
+    let rest : take 4 (drop 4 bs) ≡ drop 4 bs = take_all 4 (drop 4 bs) (omega (arith, length-drop 4 bs)) in
+    let number = a ∙ ap valued is in
+    let start = b ∙ ap (λ l. valued (take 4 l)) is in
+    let size = d ∙ ap (λ l. valued (take 4 (drop 4 l))) is ∙ ap valued rest in
+    cc

@@ -1,6 +1,8 @@
 pub mod LittleEndian
 pub mod CellCodes
+pub mod ContentsParts
 pub mod LayoutLaws
+pub mod Parting
 pub mod LayoutAnswers
 pub mod ReadLaws
 pub mod FillLaws

@@ -1,41 +1,61 @@
--- Bytes at a place, and the number that they stand for.
-use Rattle.std.proofs.Common.{◌≡◌, ℕ, suc, ◌+◌, ◌*◌, ◌<◌, ◌≤◌, List, ◌∷◌, length, get_or, take, drop, refl, ap, ◌∙◌, arith}
-use Rattle.std.proofs.lemmas.List.{drop_more, drop-drop, drop-take, take-take}
+-- Bytes in a row, the chunks that they are cut into, and the numbers that they stand for.
+use Rattle.std.proofs.Common.{◌≡◌, ℕ, zero, suc, ◌+◌, ◌-◌, ◌*◌, ◌/◌, ◌<◌, ◌≤◌, List, [], ◌∷◌, length, get_or, take, drop, refl, ap, ◌∙◌, arith, length-drop}
+use Rattle.std.specs.Int.{from_le_bytes, w32, w64}
+use Rattle.std.specs.Simd.{first_chunks}
+use Rattle.std.proofs.lemmas.List.{drop-drop, drop-take, take-take, length-take-le}
 use Rattle.sheetfile.specs.Bytes.{valued, part}
 
--- a part is its first byte and the part after it
-pub part_more : (n at next : ℕ) (bytes : List ℕ) → at + 1 ≡ next → at < length bytes → part at (suc n) bytes ≡ get_or bytes at 0 ∷ part next n bytes
-part_more n at next bytes e lt = ap (take (suc n)) (drop_more bytes at 0 lt) ∙ ap (λ m. get_or bytes at 0 ∷ take n (drop m bytes)) e
-
-valued_more : (n at next : ℕ) (bytes : List ℕ) → at + 1 ≡ next → at < length bytes → valued (part at (suc n) bytes) ≡ get_or bytes at 0 + 256 * valued (part next n bytes)
+-- four bytes, and eight, read as one number
+pub four : (bytes : List ℕ) → length bytes ≡ 4 → from_le_bytes w32 bytes ≡ valued bytes
 unfolding valued
-valued_more n at next bytes e lt = ap valued (part_more n at next bytes e lt)
+four (a ∷ b ∷ c ∷ d ∷ []) e = omega arith
+four (a ∷ b ∷ c ∷ d ∷ x ∷ xs) e = absurd (omega arith)
+four (a ∷ b ∷ c ∷ []) e = absurd (omega arith)
+four (a ∷ b ∷ []) e = absurd (omega arith)
+four (a ∷ []) e = absurd (omega arith)
+four [] e = absurd (omega arith)
 
-none_valued : (at : ℕ) (bytes : List ℕ) → valued (part at 0 bytes) ≡ 0
+pub eight : (bytes : List ℕ) → length bytes ≡ 8 → from_le_bytes w64 bytes ≡ valued bytes
 unfolding valued
-none_valued at bytes = refl
+eight (a ∷ b ∷ c ∷ d ∷ e ∷ f ∷ g ∷ h ∷ []) is = omega arith
+eight (a ∷ b ∷ c ∷ d ∷ e ∷ f ∷ g ∷ h ∷ x ∷ xs) is = absurd (omega arith)
+eight (a ∷ b ∷ c ∷ d ∷ e ∷ f ∷ g ∷ []) is = absurd (omega arith)
+eight (a ∷ b ∷ c ∷ d ∷ e ∷ f ∷ []) is = absurd (omega arith)
+eight (a ∷ b ∷ c ∷ d ∷ e ∷ []) is = absurd (omega arith)
+eight (a ∷ b ∷ c ∷ d ∷ []) is = absurd (omega arith)
+eight (a ∷ b ∷ c ∷ []) is = absurd (omega arith)
+eight (a ∷ b ∷ []) is = absurd (omega arith)
+eight (a ∷ []) is = absurd (omega arith)
+eight [] is = absurd (omega arith)
 
--- four bytes as a number
-pub four : (bytes : List ℕ) (at : ℕ) → at + 4 ≤ length bytes → valued (part at 4 bytes) ≡ get_or bytes at 0 + get_or bytes (at + 1) 0 * 256 + get_or bytes (at + 2) 0 * 65536 + get_or bytes (at + 3) 0 * 16777216
-four bytes at le =
-    let a = valued_more 3 at (at + 1) bytes refl (omega arith) in
-    let b = valued_more 2 (at + 1) (at + 2) bytes (omega arith) (omega arith) in
-    let c = valued_more 1 (at + 2) (at + 3) bytes (omega arith) (omega arith) in
-    let d = valued_more 0 (at + 3) (at + 4) bytes (omega arith) (omega arith) in
-    let z = none_valued (at + 4) bytes in
-    omega arith
+-- a part has its length
+pub length_part : (at len : ℕ) (bytes : List ℕ) → at + len ≤ length bytes → length (part at len bytes) ≡ len
+length_part at len bytes inside = length-take-le len (drop at bytes) (omega (arith, length-drop at bytes))
 
--- eight bytes as a number: the first four, and 2 ^ 32 times the next four
-pub halves_valued : (bytes : List ℕ) (at : ℕ) → at + 8 ≤ length bytes → valued (part at 8 bytes) ≡ valued (part at 4 bytes) + 4294967296 * valued (part (at + 4) 4 bytes)
-halves_valued bytes at le =
-    let low = four bytes at (omega arith) in
-    let high = four bytes (at + 4) (omega arith) in
-    let a = valued_more 7 at (at + 1) bytes refl (omega arith) in
-    let b = valued_more 6 (at + 1) (at + 2) bytes (omega arith) (omega arith) in
-    let c = valued_more 5 (at + 2) (at + 3) bytes (omega arith) (omega arith) in
-    let d = valued_more 4 (at + 3) (at + 4) bytes (omega arith) (omega arith) in
-    omega arith
+-- a part of a part
+pub part_of_part : (bytes : List ℕ) (at len i n : ℕ) → i + n ≤ len → part i n (part at len bytes) ≡ part (at + i) n bytes
+part_of_part bytes at len i n le =
+    let split : len ≡ i + (len - i) = omega arith in
+    ap (λ m. take n (drop i (take m (drop at bytes)))) split
+    ∙ ap (take n) (drop-take i (len - i) (drop at bytes))
+    ∙ take-take n (len - i) (drop i (drop at bytes)) (omega arith)
+    ∙ ap (take n) (drop-drop i at bytes)
 
--- the two halves of an eight-byte part
-pub halves : (bytes : List ℕ) (at : ℕ) → (take 4 (part at 8 bytes) ≡ part at 4 bytes) × (drop 4 (part at 8 bytes) ≡ part (at + 4) 4 bytes)
-halves bytes at = (take-take 4 8 (drop at bytes) (omega arith), drop-take 4 4 (drop at bytes) ∙ ap (take 4) (drop-drop 4 at bytes))
+-- there are as many chunks as were cut
+pub length_chunks : (n k : ℕ) (bytes : List ℕ) → length (first_chunks n k bytes) ≡ k
+length_chunks n zero bytes = refl
+length_chunks n (suc k) bytes = ap suc (length_chunks n k (drop n bytes))
+
+-- the i-th of the chunks of n bytes
+pub chunk_at : (n k i : ℕ) (bytes : List ℕ) → i < k → get_or (first_chunks n k bytes) i [] ≡ part (i * n) n bytes
+chunk_at n zero i bytes lt = absurd (omega arith)
+chunk_at n (suc k) zero bytes lt = let none : 0 ≡ 0 * n = omega arith in ap (λ m. part m n bytes) none
+chunk_at n (suc k) (suc i) bytes lt =
+    let next : n + i * n ≡ suc i * n = omega arith in
+    chunk_at n k i (drop n bytes) (omega arith) ∙ ap (take n) (drop-drop (i * n) n bytes ∙ ap (λ m. drop m bytes) next)
+
+-- the i-th of the numbers of four bytes
+pub number_at : (i : ℕ) (bytes : List ℕ) (fours : List (List ℕ)) → fours ≡ first_chunks 4 (length bytes / 4) bytes → i * 4 + 4 ≤ length bytes → from_le_bytes w32 (get_or fours i []) ≡ valued (part (i * 4) 4 bytes)
+number_at i bytes fours cut inside =
+    let at = ap (λ l. get_or l i []) cut ∙ chunk_at 4 (length bytes / 4) i bytes (omega arith) in
+    ap (from_le_bytes w32) at ∙ four (part (i * 4) 4 bytes) (length_part (i * 4) 4 bytes inside)

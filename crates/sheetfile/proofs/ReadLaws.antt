@@ -1,5 +1,5 @@
 -- Cells read one after another, up to the first that is none.
-use Rattle.std.proofs.Common.{◌≡◌, ℕ, suc, ◌+◌, ◌-◌, ◌<◌, ◌≤◌, cond, List, [], ◌∷◌, set, is_some, Some, None, Option, sym, ap, ◌∙◌, arith}
+use Rattle.std.proofs.Common.{◌≡◌, ℕ, suc, ◌+◌, ◌-◌, ◌<◌, cond, List, [], ◌∷◌, set, is_some, Some, Option, sym, ap, ◌∙◌, arith}
 use Rattle.questions.specs.Questions.{first_no}
 use Rattle.datatype.specs.declared.data.Data.{Data}
 use Rattle.sheetfile.specs.Files.{bad_cell, met, cell_questions, cells_from, placed}
@@ -19,21 +19,3 @@ module _ (cell : ℕ → Option Data) (place : ℕ → ℕ) (store : List Data) 
   good_cells x lt e =
       sym (ap (λ n. placed place k (cells_from cell k n) store) (left_more lt)
       ∙ ap (λ o. placed place k (met o (λ c. c ∷ cells_from cell (k + 1) (count - (k + 1))) []) store) e)
-
-  -- the k-th is none: the reading ends there
-  pub bad_questions : k < count → cell k ≡ None → Some (bad_cell k) ≡ first_no (cell_questions cell k (count - k))
-  bad_questions lt e =
-      sym (ap (λ n. first_no (cell_questions cell k n)) (left_more lt)
-      ∙ ap (λ o. cond (is_some o) (first_no (cell_questions cell (k + 1) (count - (k + 1)))) (Some (bad_cell k))) e)
-
-  pub bad_cells : k < count → cell k ≡ None → store ≡ placed place k (cells_from cell k (count - k)) store
-  bad_cells lt e =
-      sym (ap (λ n. placed place k (cells_from cell k n) store) (left_more lt)
-      ∙ ap (λ o. placed place k (met o (λ c. c ∷ cells_from cell (k + 1) (count - (k + 1))) []) store) e)
-
-  -- none is left
-  pub no_questions : count ≤ k → None ≡ first_no (cell_questions cell k (count - k))
-  no_questions le = let none : count - k ≡ 0 = omega arith in sym (ap (λ n. first_no (cell_questions cell k n)) none)
-
-  pub no_cells : count ≤ k → store ≡ placed place k (cells_from cell k (count - k)) store
-  no_cells le = let none : count - k ≡ 0 = omega arith in sym (ap (λ n. placed place k (cells_from cell k n) store) none)

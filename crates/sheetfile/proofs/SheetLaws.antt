@@ -1,10 +1,9 @@
 -- A file that is read: all its cells are good, they stand in the front of the store, and it is readable.
-use Rattle.std.proofs.Common.{◌≡◌, ℕ, zero, suc, ◌+◌, ◌*◌, ◌<◌, ◌≤◌, Bool, true, false, cond, eqb, leb, List, [], ◌∷◌, ◌++◌, length, take, drop, set, is_some, Some, None, Option, sym, refl, ap, ◌∙◌, subst, ⊎_elim, append_assoc, arith, length-set}
+use Rattle.std.proofs.Common.{◌≡◌, ℕ, zero, suc, ◌+◌, ◌*◌, ◌<◌, ◌≤◌, true, false, cond, List, [], ◌∷◌, ◌++◌, length, take, drop, set, is_some, Some, None, Option, sym, refl, ap, ◌∙◌, subst, ⊎_elim, append_assoc, arith, length-set}
 use Rattle.std.proofs.lemmas.List.{take-append-drop, take_at, take_more_set, drop-set-lt}
 use Rattle.std.proofs.lemmas.Bool.{eq-eqb, le-leb, both_ways, cases_Bool}
 use Rattle.std.specs.List.{slice_get}
 use Rattle.questions.specs.Questions.{first_no, bare}
-use Rattle.range.specs.Shapes.{ordered, limited}
 use Rattle.questions.proofs.QuestionLaws.{first_yes, no_in_second, both_lots}
 use Rattle.range.proofs.ShapeLaws.{lawful_tests, tests_lawful}
 use Rattle.datatype.specs.declared.data.Data.{Data}
@@ -34,7 +33,7 @@ module _ (cell : ℕ → Option Data) where
       ∙ sym (ap (λ b. cond b (first_no (cell_questions cell (k + 1) n)) (Some (bad_cell k))) here)
 
   step_length : (o : Option Data) (f : Data → List Data) (m : ℕ) → is_some o ≡ true → ((x : Data) → length (f x) ≡ m) → length (met o f []) ≡ m
-  step_length None f m e h = absurd (both_ways false refl e)
+  step_length None f m e h = absurd (grind arith)
   step_length (Some x) f m e h = h x
 
   pub good_length : (k n : ℕ) → ((j : ℕ) → j < n → is_some (cell (k + j)) ≡ true) → length (cells_from cell k n) ≡ n
@@ -97,26 +96,18 @@ from_zero cell n h j lt = let z : j ≡ 0 + j = omega arith in ap (λ i. is_some
 layout_asked : (file : List ℕ) (room : ℕ) → Readable file room → None ≡ first_no (layout_questions file room)
 layout_asked file room r =
     let k = file_corners file in
-    let bytes = (contents_of file).cells.len in
     let ok = laid_lawful file r.laid in
-    let asked = shape_questions k bytes room in
+    let asked = shape_questions k (contents_of file).cells.len room in
     ⊎_elim
     (λ (none : no_parts (contents_of file) ≡ true). passed_alone (lawful file) (no_parts (contents_of file)) (bare 18) asked ok none)
     (λ (some : no_parts (contents_of file) ≡ false).
     let count = some_count file some in
     let t = lawful_tests k (count_of_cells file) (r.shape some) in
-    let nine : eqb bytes (9 * count_of_cells file) ≡ true = eq-eqb bytes (9 * count_of_cells file) (r.bytes ∙ ap (λ n. 9 * n) count) in
-    let room_holds : leb (count_of_cells file) room ≡ true = le-leb (count_of_cells file) room (subst (λ n. n ≤ room) count r.fits) in
-    all_yes (ordered k) (limited k) (eqb bytes (9 * count_of_cells file)) (leb (count_of_cells file) room) t.0 t.1 nine room_holds
-    ∙ passed_on (lawful file) (no_parts (contents_of file)) (bare 18) asked ok some)
+    let nine = eq-eqb (contents_of file).cells.len (9 * count_of_cells file) (r.bytes ∙ ap (λ n. 9 * n) count) in
+    let takes = le-leb (count_of_cells file) room (subst (λ n. n ≤ room) count r.fits) in
+    let yes : None ≡ first_no asked = rw (t.0, t.1, nine, takes) in
+    yes ∙ passed_on (lawful file) (no_parts (contents_of file)) (bare 18) asked ok some)
     (cases_Bool (no_parts (contents_of file)))
-  where
-    all_yes : (a b c d : Bool) → a ≡ true → b ≡ true → c ≡ true → d ≡ true → None ≡ first_no ((a, bare 1) ∷ (b, bare 2) ∷ (c, bare 3) ∷ (d, bare 20) ∷ [])
-    all_yes true true true true ea eb ec ed = refl
-    all_yes true true true false ea eb ec ed = absurd (both_ways false refl ed)
-    all_yes true true false d ea eb ec ed = absurd (both_ways false refl ec)
-    all_yes true false c d ea eb ec ed = absurd (both_ways false refl eb)
-    all_yes false b c d ea eb ec ed = absurd (both_ways false refl ea)
 
 -- a readable file is asked nothing that it does not answer by yes
 pub readable_asked : (file : List ℕ) (room : ℕ) → Readable file room → None ≡ first_no (file_questions file room)

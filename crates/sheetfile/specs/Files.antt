@@ -1,5 +1,6 @@
 -- A sheet file: its questions in order, its sheet, and what a reading leaves in the store.
-use Rattle.std.specs.Prelude.{ℕ, zero, suc, ◌+◌, ◌*◌, cond, List, [], ◌∷◌, is_some, Some, None, Option, ◌==◌, nat_le, slice_set}
+use Rattle.std.specs.Prelude.{◌≡◌, ℕ, zero, suc, ◌+◌, ◌*◌, true, cond, List, [], ◌∷◌, is_some, Some, None, Option, ◌==◌, nat_le, slice_set, slice_index_or}
+use Rattle.std.specs.Simd.{first_chunks}
 use Rattle.questions.specs.Questions.{Refusal, Question, bare}
 use Rattle.range.specs.Shapes.{rows_of, columns_of}
 use Rattle.range.specs.Making as making
@@ -9,9 +10,10 @@ use Rattle.datatype.specs.declared.data.Data.{Data}
 use Rattle.sheetfile.specs.Bytes.{valued, part}
 use Rattle.sheetfile.specs.CellCode.{decoded}
 use Rattle.sheetfile.specs.Contents.{contents_of, no_parts, lawful}
-use Rattle.sheetfile.specs.declared.contents.Layout.{Layout}
+use Rattle.sheetfile.specs.declared.asking.Parts.{Parts}
 use Rattle.sheetfile.specs.declared.fault.FileFault.{FileFault}
 use Rattle.sheetfile.specs.declared.fault.FileFault.TheVariants.{Contents, Sheet, Cell}
+use Rattle.sheetfile.specs.declared.layout.Layout.{Layout}
 
 -- 19 carries the cell's index in the order of the file
 abbrev pub bad_cell : ℕ → Refusal
@@ -46,17 +48,36 @@ abbrev pub layout_questions : List ℕ → ℕ → List Question
 layout_questions file room =
     (lawful file, bare 18) ∷ cond (no_parts (contents_of file)) [] (shape_questions (file_corners file) (contents_of file).cells.len room)
 
-abbrev pub file_layout : List ℕ → Option Layout
+-- the bytes of each part, where the table of contents is lawful
+pub record IsParted (file : List ℕ) (parts : Parts) : Type 0 where
+  pub lawful : lawful file ≡ true
+  pub shape : parts.shape.now ≡ part (contents_of file).shape.place (contents_of file).shape.len file
+  pub cells : parts.cells.now ≡ part (contents_of file).cells.place (contents_of file).cells.len file
+  pub text : parts.text.now ≡ part (contents_of file).text.place (contents_of file).text.len file
+
+-- where a sheet that is not empty lies: its corners, its cells, nine bytes each, and its text
+pub record SheetParts : Type 0 where
+  pub corners : Corners
+  pub cells : List (List ℕ)
+  pub text : List ℕ
+
+abbrev pub shown : Layout → SheetParts
+shown l = record { corners = l.corners; cells = l.cells.now; text = l.text.now }
+
+abbrev pub file_layout : List ℕ → Option SheetParts
 file_layout file = cond (no_parts (contents_of file)) None (Some (record {
   corners = file_corners file;
-  cell_count = count_of_cells file;
-  cells_place = (contents_of file).cells.place;
-  text_place = (contents_of file).text.place;
+  cells = first_chunks 9 (count_of_cells file) (part (contents_of file).cells.place (contents_of file).cells.len file);
+  text = part (contents_of file).text.place (contents_of file).text.len file;
 }))
 
 -- the k-th cell of the file, nine bytes from its place on
 abbrev pub file_cell : List ℕ → ℕ → ℕ → Option Data
 file_cell file place k = decoded (part (place + 9 * k) 9 file)
+
+-- the k-th of cells that stand apart
+abbrev pub cell_in : List (List ℕ) → ℕ → Option Data
+cell_in cells k = decoded (slice_index_or cells k [])
 
 abbrev pub met : {A B : Type 0} → Option A → (A → B) → B → B
 met None some none = none

@@ -1,9 +1,7 @@
 // A cell in nine bytes: a kind, and eight bytes that its kind gives a meaning.
-ghost use Rattle.std.specs.Prelude.{◌≡◌, ◌+◌, ◌≤◌, length};
-ghost use Rattle.sheetfile.specs.Bytes.{part};
+ghost use Rattle.std.specs.Prelude.{◌≡◌};
 ghost use Rattle.sheetfile.specs.CellCode.{when_finite, error_cell, serial_cell, cell_of, decoded, empty_cell, bool_cell};
 
-use crate::numbers::{read_u32, read_u64};
 use datatype::cell_error_type::CellErrorType;
 use datatype::data::{Data, TextPart};
 use datatype::excel_date_time::{ExcelDateTime, ExcelDateTimeType};
@@ -13,24 +11,18 @@ use std::num::f64_from_bits_with_nan;
 fn when_finite(bits: u64, cell: Data) -> Option<Data>
     ensures { result ≡ when_finite bits cell }
 {
-    if f64_from_bits_with_nan(bits).is_finite() {
-        Some(cell)
-    } else {
-        None
-    }
+    f64_from_bits_with_nan(bits).is_finite().then_some(cell)
 }
 
 fn serial_cell(bits: u64, datetime_type: ExcelDateTimeType, is_1904: bool) -> Option<Data>
     ensures { result ≡ serial_cell bits datetime_type is_1904 }
 {
-    when_finite(
+    let serial = ExcelDateTime {
         bits,
-        Data::DateTime(ExcelDateTime {
-            bits,
-            datetime_type,
-            is_1904,
-        }),
-    )
+        datetime_type,
+        is_1904,
+    };
+    when_finite(bits, Data::DateTime(serial))
 }
 
 fn bool_cell(number: u64) -> Option<Data>
@@ -46,25 +38,15 @@ fn bool_cell(number: u64) -> Option<Data>
 fn error_cell(number: u64) -> Option<Data>
     ensures { result ≡ error_cell number }
 {
-    let error = match number {
-        0 => CellErrorType::Div0,
-        1 => CellErrorType::NA,
-        2 => CellErrorType::Name,
-        3 => CellErrorType::Null,
-        4 => CellErrorType::Num,
-        5 => CellErrorType::Ref,
-        6 => CellErrorType::Value,
-        7 => CellErrorType::GettingData,
-        _ => return None,
-    };
-    Some(Data::Error(error))
+    CellErrorType::try_from(number).ok().map(Data::Error)
 }
 
+// The kinds stay numbers: each stands once, beside its cell, and an enum of them would be this table twice.
 fn cell_of(kind: u8, number: u64, text: TextPart) -> Option<Data>
     ensures { result ≡ cell_of kind number text }
 {
     match kind {
-        0 => { if number == 0 { Some(Data::Empty) } else { None } }
+        0 => (number == 0).then_some(Data::Empty),
         1 => Some(Data::Int(number.cast_signed())),
         2 => when_finite(number, Data::Float(number)),
         3 => Some(Data::String(text)),
@@ -80,14 +62,15 @@ fn cell_of(kind: u8, number: u64, text: TextPart) -> Option<Data>
     }
 }
 
-/// The cell that nine bytes from a place on stand for, or none.
-pub(crate) fn read_cell(file: &[u8], at: usize) -> Option<Data>
-    requires inside { at + 9 ≤ length file.now }
-    ensures { result ≡ decoded (part at 9 file.now) }
+/// The cell that nine bytes stand for, or none.
+pub(crate) fn read_cell(bytes: &[u8; 9]) -> Option<Data>
+    ensures { result ≡ decoded bytes.now }
 {
+    let content = bytes.last_chunk::<8>().unwrap();
+    let (halves, _) = content.as_chunks::<4>();
     let text = TextPart {
-        place: read_u32(file, at + 1),
-        len: read_u32(file, at + 5),
+        place: u32::from_le_bytes(halves[0]),
+        len: u32::from_le_bytes(halves[1]),
     };
-    cell_of(file[at], read_u64(file, at + 1), text)
+    cell_of(bytes[0], u64::from_le_bytes(*content), text)
 }

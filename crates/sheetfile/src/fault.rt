@@ -1,7 +1,9 @@
 // Why a sheet file is not read.
 ghost use Rattle.std.specs.Prelude.{◌≡◌};
+ghost use Rattle.sheetfile.specs.Files.{told};
 ghost use Rattle.sheetfile.specs.declared.fault.FileFault.TheVariants.{Sheet};
 
+use questions::fault::Fault;
 use range::fault::RangeFault;
 
 #[derive(Clone, Copy, PartialEq, Eq, Debug)]
@@ -12,6 +14,18 @@ pub enum FileFault {
     Sheet(RangeFault),
     /// a cell of no listed kind or content, by its index in the order of the file: 19
     Cell(usize),
+}
+
+impl Fault for FileFault {
+    ghost told = { told };
+
+    fn number(&self) -> u8 {
+        match *self {
+            FileFault::Contents => 18,
+            FileFault::Sheet(fault) => fault.number(),
+            FileFault::Cell(_) => 19,
+        }
+    }
 }
 
 impl From<RangeFault> for FileFault {

@@ -5,7 +5,7 @@ mod asking;
 mod cell_code;
 mod contents;
 pub mod fault;
-mod numbers;
+mod layout;
 mod reading;
 pub mod refused;
 pub mod sheet_file;

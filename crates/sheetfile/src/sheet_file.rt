@@ -1,30 +1,16 @@
 // A file read into a store, and the sheet that is then lent the store.
-ghost use Rattle.std.specs.Prelude.{◌≡◌, ◌≤◌, true, length, take, drop, is_ok, IfErr, Ok};
+ghost use Rattle.std.specs.Prelude.{◌≡◌, true, length, is_ok, IfOk, IfErr, Ok};
 ghost use Rattle.questions.specs.Questions.{refusal_of, first_no};
-ghost use Rattle.range.specs.Shapes.{Lawful};
-ghost use Rattle.range.specs.Sheets.{sheet, made_of};
+ghost use Rattle.range.specs.Sheets.{sheet};
 ghost use Rattle.sheetfile.specs.Files.{told};
 ghost use Rattle.sheetfile.specs.Reading.{file_questions, stored, Readable, StandsFor};
 
-use crate::contents::Layout;
 use crate::fault::FileFault;
+use crate::layout::Layout;
 use crate::reading::fill;
 use crate::refused::Refused;
 use datatype::data::Data;
-use questions::fault::Fault;
 use range::sheet::Range;
-
-impl Fault for FileFault {
-    ghost told = { told };
-
-    fn number(&self) -> u8 {
-        match *self {
-            FileFault::Contents => 18,
-            FileFault::Sheet(fault) => fault.number(),
-            FileFault::Cell(_) => 19,
-        }
-    }
-}
 
 /// Fills the front of the store with the cells of the file, each at its place in the sheet.
 /// A no before the cells leaves the store as it was; a bad cell leaves those before it written.
@@ -37,19 +23,28 @@ pub fn fill_cells(file: &[u8], store: &mut [Data]) -> Result<(), FileFault>
     Ok(())
 }
 
-/// Makes the sheet over the filled store.
-fn lend<'a>(range: &mut Range<'a, Data>, layout: Layout, file: &'a [u8], store: &'a [Data])
-    requires lawful { Lawful layout.corners layout.cell_count }
-    requires room { layout.cell_count ≤ length store.now }
-    requires inside { layout.text_place ≤ length file.now }
-    ensures { sheet range.new ≡ made_of layout.corners (take layout.cell_count store.now) (drop layout.text_place file.now) }
+/// The sheet of a file: the store is filled with its cells, and the sheet lies over the store and the file's text.
+/// A refusal gives the store back.
+pub fn worksheet_range<'a>(
+    file: &'a [u8],
+    store: &'a mut [Data],
+) -> Result<Range<'a, Data>, Refused<'a>>
+    ensures answers { refusal_of (λ b. told b.fault) result ≡ first_no (file_questions file.now (length store.old)) }
+    ensures read { IfOk result (λ range. StandsFor file.now (sheet range)) }
+    ensures refused { IfErr result (λ b. b.store.now ≡ stored file.now store.old) }
 {
-    let (cells, _) = store.split_at(layout.cell_count);
-    let (_, text) = file.split_at(layout.text_place);
-    let _ = range.make(layout.corners, cells, text);
+    match fill(file, store) {
+        Ok(Some(layout)) => {
+            let (cells, _) = store.split_at(layout.cells.len());
+            // a layout is lawful, so its sheet is not refused
+            Ok(Range::from_parts(layout.corners, cells, layout.text).unwrap())
+        }
+        Ok(None) => Ok(Range::empty()),
+        Err(fault) => Err(Refused { fault, store }),
+    }
 }
 
-/// Reads a file: the store is filled with its cells, and the range becomes its sheet over the store and the file's text.
+/// Reads a file: the range becomes its sheet over the filled store and the file's text.
 /// A refusal leaves the range as it was, and gives the store back.
 pub fn read_sheet<'a>(
     range: &mut Range<'a, Data>,
@@ -60,14 +55,6 @@ pub fn read_sheet<'a>(
     ensures read { is_ok result ≡ true → StandsFor file.now (sheet range.new) }
     ensures refused { IfErr result (λ b. (b.store.now ≡ stored file.now store.old) × (range.new ≡ range.old)) }
 {
-    let found = match fill(file, store) {
-        Ok(found) => found,
-        Err(fault) => return Err(Refused { fault, store }),
-    };
-    let Some(layout) = found else {
-        *range = Range::empty();
-        return Ok(());
-    };
-    lend(range, layout, file, store);
+    *range = worksheet_range(file, store)?;
     Ok(())
 }
