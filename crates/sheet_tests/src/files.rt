@@ -1,8 +1,9 @@
 // Sheet files at the edges of every question.
+use datatype::cell_error_type::{CellErrorType, UnknownErrorType};
 use datatype::data::Data;
 use questions::fault::Fault;
 use range::sheet::Range;
-use sheetfile::sheet_file::{fill_cells, read_sheet};
+use sheetfile::sheet_file::{fill_cells, read_sheet, worksheet_range};
 use std::test::Fail;
 
 // one row and two columns from row 1 and column 2 on, a whole -2 and an empty cell, the text `ok`
@@ -114,4 +115,33 @@ fn refused_sheet(rt: HostRuntime) -> Result<(), Fail> {
     }
     assert!(rt; range.get((0, 0)).copied() == Some(Data::Int(-2)));
     Ok(())
+}
+
+#[test]
+fn ranges_of_files(rt: HostRuntime) -> Result<(), Fail> {
+    let mut store = [Data::Bool(true); 3];
+    let range = worksheet_range(&GOOD, &mut store).ok().ok_or("refused")?;
+    assert_eq!(rt; range.start(), Some((1, 2)));
+    assert_eq!(rt; range.end(), Some((1, 3)));
+    assert!(rt; range.text() == b"ok".as_slice());
+    assert!(rt; range.get((0, 0)).copied() == Some(Data::Int(-2)));
+    assert!(rt; range.get((0, 1)).copied() == Some(Data::Empty));
+    let mut short = [Data::Bool(true); 1];
+    match worksheet_range(&GOOD, &mut short) {
+        Ok(_) => return Err(Fail::new("read")),
+        Err(refused) => {
+            assert_eq!(rt; refused.fault.number(), 20);
+            assert!(rt; (refused.store.len() == 1) & (refused.store[0] == Data::Bool(true)));
+        }
+    }
+    Ok(())
+}
+
+#[test]
+fn errors_by_number(rt: HostRuntime) {
+    assert!(rt; CellErrorType::try_from(0) == Ok(CellErrorType::Div0));
+    assert!(rt; CellErrorType::try_from(1) == Ok(CellErrorType::NA));
+    assert!(rt; CellErrorType::try_from(7) == Ok(CellErrorType::GettingData));
+    assert!(rt; CellErrorType::try_from(8) == Err(UnknownErrorType(8)));
+    assert!(rt; CellErrorType::try_from(u64::MAX) == Err(UnknownErrorType(u64::MAX)));
 }
