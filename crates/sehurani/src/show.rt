@@ -3,7 +3,7 @@ use crate::cell_text::CellText;
 use crate::refusal::Refusal;
 use datatype::data::Data;
 use range::sheet::Range;
-use sheetfile::sheet_file::read_sheet;
+use sheetfile::sheet_file::worksheet_range;
 use std::process::ExitCode;
 use std::{fs, io};
 
@@ -12,9 +12,8 @@ pub(crate) fn show(rt: &HostRuntime, path: &str) -> anyhow::Result<ExitCode> {
     let file = fs::read(rt, path)?;
     // a cell has nine bytes, so no file has more cells than this
     let mut store = vec![in heap; Data::Empty; file.len() / 9]?;
-    let mut range = Range::empty();
-    match read_sheet(&mut range, file.as_slice(), store.as_mut_slice()) {
-        Ok(()) => {
+    match worksheet_range(file.as_slice(), store.as_mut_slice()) {
+        Ok(range) => {
             print_sheet(rt, &range)?;
             Ok(ExitCode::SUCCESS)
         }
