@@ -1,10 +1,5 @@
 -- The time of day in a serial, in exact terms. A float that is not negative is the fraction num / den.
 use Rattle.std.specs.Prelude.{ℕ, ◌+◌, ◌*◌, ◌/◌, ◌%◌, ◌<◌, false, Float}
-use Rattle.std.specs.Coded.{×_prop, le_prop}
-use mathlib.Core.Bool.{Bool-set}
-use mathlib.Core.HLevel.{hedberg}
-use native.Mathlib.Decide.{ℕ_discrete}
-use Rattle.std.specs.Float.{nan, inf, fin}
 use Rattle.std.specs.Float.Ieee.{round}
 use Rattle.std.specs.Float.{binary64}
 use Rattle.std.specs.Float.Ieee.Exact.{HasValue}
@@ -13,12 +8,6 @@ use Rattle.std.specs.Float.Ieee.Positive.{num, den}
 -- x is finite, its sign is plus, and it is below the bound
 abbrev pub Under : Float → ℕ → Type 0
 Under x bound = HasValue x false (num x) (den x) × (num x < bound * den x)
-
--- which has one proof at most
-pub Under-prop : (x : Float) (bound : ℕ) → IsProp (Under x bound)
-Under-prop nan bound = λ p. absurd p.0
-Under-prop (inf s) bound = λ p. absurd p.0
-Under-prop (fin s m e) bound = ×_prop (×_prop (Bool-set s false) (hedberg ℕ_discrete _ _)) le_prop
 
 -- x without its fraction
 abbrev pub whole_part : Float → ℕ

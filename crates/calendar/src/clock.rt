@@ -1,7 +1,8 @@
 // The milliseconds of a serial.
 ghost use Rattle.std.specs.Prelude.{◌≡◌, Bool, ◌^◌, ◌<◌, ◌&&◌, is_ok, nat_le, IfOk};
 ghost use Rattle.calendar.specs.Calendar.{last_day};
-ghost use Rattle.calendar.specs.Clock.{Under, Under-prop, whole_part, fraction_times, half_up, millis_since_start};
+ghost use Rattle.calendar.specs.Bounds.{Under-prop};
+ghost use Rattle.calendar.specs.Clock.{Under, whole_part, fraction_times, half_up, millis_since_start};
 ghost use Rattle.calendar.specs.Serial.{day_of, accepted};
 
 use crate::civil::DateFault;

@@ -25,6 +25,7 @@ fn serial_cell(bits: u64, datetime_type: ExcelDateTimeType, is_1904: bool) -> Op
     when_finite(bits, Data::DateTime(serial))
 }
 
+// By hand: the library turns no number into a yes or a no.
 fn bool_cell(number: u64) -> Option<Data>
     ensures { result ≡ bool_cell number }
 {

@@ -28,6 +28,7 @@ impl Fault for FileFault {
     }
 }
 
+// Written out: a derived `From` has no contract, and clauses name the fault that `?` makes.
 impl From<RangeFault> for FileFault {
     ghost from_gives = { λ f r. r ≡ Sheet f };
 
