@@ -1,5 +1,5 @@
 // Numbers printed in decimal, and a yes/no printed in words.
-ghost use Rattle.std.specs.Prelude.{◌≡◌, ◌^◌, ◌≤◌, [], Some};
+ghost use Rattle.std.specs.Prelude.{◌≡◌, ◌^◌, ◌≤◌, [], length, Some};
 ghost use Rattle.std.specs.Option.{option_map};
 ghost use Rattle.number.specs.Forms.{signed_text, whole_text, whole_size, float_text, bool_text};
 ghost use Rattle.number.specs.Stamp.{printed_text};
@@ -16,10 +16,18 @@ impl Printed {
     pub fn empty() -> Printed
         ensures { printed_text result ≡ [] }
     {
-        Printed {
-            bytes: [0; 20],
-            start: 20,
-        }
+        Printed::holding(b"")
+    }
+
+    /// These bytes.
+    fn holding(text: &[u8]) -> Printed
+        requires { length text.now ≤ 20 }
+        ensures { printed_text result ≡ text.now }
+    {
+        let start = 20 - text.len();
+        let mut bytes = [0; 20];
+        bytes[start..].copy_from_slice(text);
+        Printed { bytes, start }
     }
 
     /// The bytes of the printed number.
@@ -54,17 +62,7 @@ pub fn print_float(x: f64) -> Option<Printed>
 pub fn print_bool(value: bool) -> Printed
     ensures { printed_text result ≡ bool_text value }
 {
-    if value {
-        Printed {
-            bytes: *b"                true",
-            start: 16,
-        }
-    } else {
-        Printed {
-            bytes: *b"               false",
-            start: 15,
-        }
-    }
+    Printed::holding(if value { b"true".as_slice() } else { b"false" })
 }
 
 /// A size in decimal, after a minus where there is one.
