@@ -5,9 +5,13 @@ use datatype::data::Data;
 use range::sheet::Range;
 use sheetfile::sheet_file::worksheet_range;
 use std::process::ExitCode;
+use std::rt::Files;
 use std::{fs, io};
 
-pub(crate) fn show(rt: &HostRuntime, path: &str) -> anyhow::Result<ExitCode> {
+pub(crate) fn show(
+    rt: &(impl Files + Print + AllocGlobal),
+    path: &str,
+) -> anyhow::Result<ExitCode> {
     let heap = rt.alloc();
     let file = fs::read(rt, path)?;
     // a cell has nine bytes, so no file has more cells than this
@@ -24,7 +28,7 @@ pub(crate) fn show(rt: &HostRuntime, path: &str) -> anyhow::Result<ExitCode> {
     }
 }
 
-fn print_sheet(rt: &HostRuntime, range: &Range<Data>) -> io::Result<()> {
+fn print_sheet(rt: &impl Print, range: &Range<Data>) -> io::Result<()> {
     match range.start().zip(range.end()) {
         Some(((first_row, first_column), (last_row, last_column))) => println!(rt;
             "sheet: rows {first_row} to {last_row}, columns {first_column} to {last_column}"
@@ -40,7 +44,7 @@ fn print_sheet(rt: &HostRuntime, range: &Range<Data>) -> io::Result<()> {
     println!(rt; "rows shown: {rows}, cells shown: {cells}")
 }
 
-fn print_row(rt: &HostRuntime, number: u32, row: &[Data], text: &[u8]) -> io::Result<()> {
+fn print_row(rt: &impl Print, number: u32, row: &[Data], text: &[u8]) -> io::Result<()> {
     print!(rt; "row {number}:")?;
     let mut separator = " ";
     for cell in row {
