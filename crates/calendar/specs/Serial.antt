@@ -1,6 +1,7 @@
 -- What a serial means: a date and a time of day, or a refusal.
 use Rattle.std.specs.Prelude.{◌≡◌, ℕ, ◌+◌, ◌*◌, ◌/◌, ◌%◌, ◌<◌, Bool, false, cond, not, ◌&&◌, ◌||◌, Ok, Err, Result, ◌==◌, nat_le, Float}
 use Rattle.std.specs.Float.{nan, inf, fin}
+use Rattle.questions.specs.Questions.{Refusal, bare}
 use Rattle.calendar.specs.declared.civil.CivilTime.{CivilTime}
 use Rattle.calendar.specs.declared.civil.DateFault.{DateFault}
 use Rattle.calendar.specs.declared.civil.DateFault.TheVariants.{OutsideCalendar}
@@ -10,6 +11,10 @@ use Rattle.calendar.specs.Clock.{millis_since_start}
 -- the number of each refusal
 abbrev pub number : DateFault → ℕ
 number OutsideCalendar = 15
+
+-- which carries nothing else
+abbrev pub told : DateFault → Refusal
+told f = bare (number f)
 
 -- the serial day after carrying
 abbrev pub day_of : Float → ℕ

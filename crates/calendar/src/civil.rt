@@ -1,4 +1,7 @@
 // What a serial is turned into.
+ghost use Rattle.calendar.specs.Serial.{told};
+
+use questions::fault::Fault;
 
 /// A day of the civil calendar, or 1900-02-29 of the 1900 system, which never was.
 #[derive(Clone, Copy, PartialEq, Debug)]
@@ -21,6 +24,16 @@ pub struct CivilTime {
 /// Why a serial has no civil time.
 #[derive(Clone, Copy, PartialEq, Debug)]
 pub enum DateFault {
-    /// The serial is below 0, not a number, or past 9999-12-31.
+    /// The serial is below 0, not a number, or past 9999-12-31. Number 15.
     OutsideCalendar,
+}
+
+impl Fault for DateFault {
+    ghost told = { told };
+
+    fn number(&self) -> u8 {
+        match *self {
+            DateFault::OutsideCalendar => 15,
+        }
+    }
 }

@@ -1,4 +1,5 @@
 use super::*;
+use questions::fault::Fault;
 use std::test::Fail;
 
 const COMMON: [u16; 12] = [31, 28, 31, 30, 31, 30, 31, 31, 30, 31, 30, 31];
@@ -122,4 +123,5 @@ fn outside(rt: HostRuntime) {
             Err(DateFault::OutsideCalendar)
         );
     }
+    assert_eq!(rt; DateFault::OutsideCalendar.number(), 15);
 }

@@ -40,9 +40,9 @@ fn month_length(is_leap: bool, month: u8) -> u8
 /// A day of a year, counted from 0.
 #[derive(Clone, Copy)]
 pub(crate) struct YearDay {
-    pub year: u16,
-    pub is_leap: bool,
-    pub day: u16,
+    pub(crate) year: u16,
+    pub(crate) is_leap: bool,
+    pub(crate) day: u16,
     pub ghost in_year: { day < year_length is_leap },
 }
 

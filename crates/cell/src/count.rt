@@ -1,4 +1,4 @@
-// The count cell: one signed number, whose least value stands for empty.
+// The count cell: one signed number, whose least value stands for empty, as its format has it.
 ghost use Rattle.cell.specs.Kinds.{count_meaning};
 ghost use Rattle.std.proofs.Common.{rules};
 

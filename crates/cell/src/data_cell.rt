@@ -16,8 +16,8 @@ fn sound_part(part: TextPart, text: &[u8]) -> Option<TextValue<'_>>
     ensures bytes { option_map (λ t. t.bytes.now) result ≡ sound_part part.place part.len text.now }
     ensures lies { IfSome result (λ t. StandsAt text.now t.place t.bytes.now) }
 {
+    let bytes = part.bytes(text)?;
     let place = part.place as usize;
-    let bytes = text.get(place..place + part.len as usize)?;
     is_utf8(bytes).then_some(TextValue { place, bytes })
 }
 

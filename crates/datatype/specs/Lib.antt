@@ -1,3 +1,4 @@
+pub mod Parts
 pub mod Errors
 pub mod Serials
 pub mod Meanings

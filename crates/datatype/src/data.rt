@@ -1,4 +1,8 @@
 // The typed cell.
+ghost use Rattle.std.specs.Prelude.{◌≡◌};
+ghost use Rattle.std.specs.Option.{option_map};
+ghost use Rattle.datatype.specs.Parts.{part_bytes};
+
 use crate::cell_error_type::CellErrorType;
 use crate::excel_date_time::ExcelDateTime;
 
@@ -8,6 +12,16 @@ use crate::excel_date_time::ExcelDateTime;
 pub struct TextPart {
     pub place: u32,
     pub len: u32,
+}
+
+impl TextPart {
+    /// The bytes of the part; none where it leaves the text by the true sum.
+    pub fn bytes<'a>(&self, text: &'a [u8]) -> Option<&'a [u8]>
+        ensures { option_map (λ bytes. bytes.now) result ≡ part_bytes self.now.place self.now.len text.now }
+    {
+        let place = self.place as usize;
+        text.get(place..place + self.len as usize)
+    }
 }
 
 #[derive(Clone, Copy, PartialEq, Eq, Debug)]

@@ -20,7 +20,7 @@ impl ExcelDateTime {
         }
     }
 
-    // Two names of one question, as calamine has them.
+    // The two questions have calamine's names.
 
     /// Whether it is a length of time.
     pub fn is_duration(&self) -> bool

@@ -20,6 +20,7 @@ pub enum Value<'a> {
     DurationIso(TextValue<'a>),
     Error(CellErrorType),
     Empty,
-    /// a text part that leaves the sheet's text or is not UTF-8
+    /// a text part that leaves the sheet's text or is not UTF-8; a meaning like the others, of which each call says what it
+    /// gives for it
     Unsound,
 }

@@ -1,5 +1,6 @@
 -- Why a text is not read as a float, by the numbers of the refusals.
 use Rattle.std.specs.Prelude.{ℕ, List, Some, None, Ok, Err, Option, Result, Float}
+use Rattle.questions.specs.Questions.{Refusal, bare}
 use Rattle.decimal.specs.declared.fault.NumberFault.{NumberFault}
 use Rattle.decimal.specs.declared.fault.NumberFault.TheVariants.{NotANumber, OutOfRange}
 use Rattle.decimal.specs.Grammar.{Literal, literal}
@@ -9,6 +10,10 @@ use Rattle.decimal.specs.Amount.{amount_of}
 abbrev pub fault_number : NumberFault → ℕ
 fault_number NotANumber = 13
 fault_number OutOfRange = 14
+
+-- which carries nothing else
+abbrev pub told : NumberFault → Refusal
+told f = bare (fault_number f)
 
 -- an answer with the number of its refusal
 abbrev pub numbered : Result Float NumberFault → Result Float ℕ

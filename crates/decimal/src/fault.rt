@@ -1,4 +1,7 @@
 // Why a text is not read as a float.
+ghost use Rattle.decimal.specs.Fault.{told};
+
+use questions::fault::Fault;
 
 #[derive(Clone, Copy, PartialEq, Eq, Debug)]
 pub enum NumberFault {
@@ -6,4 +9,15 @@ pub enum NumberFault {
     NotANumber,
     /// The number lies beyond what one rounding of exact numbers reads. Number 14.
     OutOfRange,
+}
+
+impl Fault for NumberFault {
+    ghost told = { told };
+
+    fn number(&self) -> u8 {
+        match *self {
+            NumberFault::NotANumber => 13,
+            NumberFault::OutOfRange => 14,
+        }
+    }
 }

@@ -23,6 +23,7 @@ pub fn parse_float(text: &[u8]) -> Result<f64, NumberFault>
     let (whole, rest) = split_digits(body);
     let (fraction, rest) = split_fraction(rest);
     let exponent = split_exponent(rest).ok_or(NumberFault::NotANumber)?;
+    // One test of both, with no branch in between.
     if whole.is_empty() & fraction.is_empty() {
         return Err(NumberFault::NotANumber);
     }

@@ -23,7 +23,7 @@ pub(crate) fn split_fraction(text: &[u8]) -> (&[u8], &[u8])
 {
     match text {
         [b'.', rest @ ..] => split_digits(rest),
-        _ => (&text[0..0], text),
+        _ => (&[], text),
     }
 }
 

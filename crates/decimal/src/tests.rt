@@ -1,6 +1,7 @@
 // Tables of edge values.
 use crate::fault::NumberFault;
 use crate::parse::parse_float;
+use questions::fault::Fault;
 use std::test::Fail;
 
 #[test]
@@ -98,4 +99,10 @@ fn long_texts_end(rt: HostRuntime) {
     assert!(rt; parse_float(&zeros) == Ok(0.0));
     zeros[1] = b'7';
     assert!(rt; parse_float(&zeros) == Err(NumberFault::OutOfRange));
+}
+
+#[test]
+fn numbers_of_faults(rt: HostRuntime) {
+    assert_eq!(rt; NumberFault::NotANumber.number(), 13);
+    assert_eq!(rt; NumberFault::OutOfRange.number(), 14);
 }

@@ -37,7 +37,8 @@ fn parse_digits<W: Width>(digits: Signed<&[u8]>) -> Option<W>
 }
 
 impl Signed<u64> {
-    /// The number that it is, where that has at most 64 bits.
+    /// The number that it is, where that has at most 64 bits. The sign is put on here, since each type
+    /// asks something else of a negation.
     fn to_whole(self) -> Option<i64>
         ensures { result ≡ if_fits (signed 63) (under_sign self.minus self.size) }
     {

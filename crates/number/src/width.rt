@@ -50,7 +50,8 @@ impl Width for i64 {
 }
 
 // The impls for u32 and u8 differ in the type alone, and each is written out: a macro may write no
-// impl here, and the library's casts are functions of one type each.
+// impl here, the library's casts are functions of one type each, and a `holds` over `TryFrom` in the
+// trait would ask a law of each type in its place.
 impl Width for u32 {
     ghost wide = { unsigned 32 };
 

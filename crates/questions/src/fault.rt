@@ -7,7 +7,7 @@ pub trait Fault {
     // What the refusal tells: its number, and the values that it carries.
     ghost told: { Self → Refusal };
 
-    /// The number of the refusal. Numbers are what reports and papers name refusals by; code tells them apart by their enums.
+    /// The number of the refusal. Reports name refusals by their numbers; code tells them apart by their enums.
     fn number(&self) -> u8
         ensures { result ≡ (told self.now).number };
 }

@@ -28,6 +28,7 @@ impl<'a, T> Range<'a, T> {
     pub fn row(&self, index: usize) -> Option<&'a [T]>
         ensures { option_map (λ x. x.now) result ≡ row_at (sheet self.now) index }
     {
+        // By its place: the `nth` of a walk would go over the rows before it.
         let (height, width) = self.get_size();
         if index >= height {
             return None;

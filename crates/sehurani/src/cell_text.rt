@@ -39,8 +39,7 @@ impl CellText<'_> {
     /// A text by its part of the sheet's text, or that it leaves it.
     fn write_part<W: fmt::Write>(&self, part: TextPart, f: &mut fmt::Formatter<W>) -> fmt::Result {
         let TextPart { place, len } = part;
-        let start = place as usize;
-        match self.text.get(start..start + len as usize) {
+        match part.bytes(self.text) {
             Some(bytes) => write!(f, "{}", Quoted(bytes)),
             None => write!(f, "leaves the text: place {place}, length {len}"),
         }

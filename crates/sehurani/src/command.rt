@@ -1,5 +1,5 @@
-// What the program is asked to do, and the status that it ends with: a sheet that is refused, and a command that is not
-// known, have been said, and end it with status 1.
+// What the program is asked to do, and the status that it ends with: 1 where a sheet is refused or a command is not known.
+// Either has then been said.
 use crate::show::show;
 use std::alloc::{AllocError, Global};
 use std::fs;

@@ -70,6 +70,15 @@ fn refusals(rt: HostRuntime) {
 }
 
 #[test]
+fn parts_of_a_text(rt: HostRuntime) {
+    assert_eq!(rt; part(3, 2).bytes(TEXT), Some(b"\xc3\xa9".as_slice()));
+    assert_eq!(rt; part(5, 0).bytes(TEXT), Some(b"".as_slice()));
+    assert_eq!(rt; part(5, 1).bytes(TEXT), None);
+    assert_eq!(rt; part(6, 0).bytes(TEXT), None);
+    assert_eq!(rt; part(u32::MAX, u32::MAX).bytes(TEXT), None);
+}
+
+#[test]
 fn used_cells(rt: HostRuntime) -> Result<(), Fail> {
     let corners = Corners {
         first_row: 7,

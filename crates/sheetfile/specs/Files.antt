@@ -55,7 +55,7 @@ pub record IsParted (file : List ℕ) (parts : Parts) : Type 0 where
   pub cells : parts.cells.now ≡ part (contents_of file).cells.place (contents_of file).cells.len file
   pub text : parts.text.now ≡ part (contents_of file).text.place (contents_of file).text.len file
 
--- where a sheet that is not empty lies: its corners, its cells, nine bytes each, and its text
+-- the parts of a sheet that is not empty: its corners, its cells, nine bytes each, and its text
 pub record SheetParts : Type 0 where
   pub corners : Corners
   pub cells : List (List ℕ)

@@ -65,7 +65,7 @@ fn ask_shape(corners: Corners, bytes: &[u8], room: usize) -> Result<&[[u8; 9]], 
     Ok(cells)
 }
 
-/// Every question before the cells: where the sheet lies, or none for the empty sheet.
+/// Every question before the cells: the parts of the sheet, or none for the empty sheet.
 pub(crate) fn layout(file: &[u8], room: usize) -> Result<Option<Layout<'_>>, FileFault>
     ensures answers { refusal_of told result ≡ first_no (layout_questions file.now room) }
     ensures is { IfOk result (λ o. option_map shown o ≡ file_layout file.now) }

@@ -2,6 +2,7 @@
 ghost use Rattle.std.specs.Prelude.{◌≡◌};
 ghost use Rattle.sheetfile.specs.CellCode.{when_finite, error_cell, serial_cell, cell_of, decoded, empty_cell, bool_cell};
 
+use crate::contents::Extent;
 use datatype::cell_error_type::CellErrorType;
 use datatype::data::{Data, TextPart};
 use datatype::excel_date_time::{ExcelDateTime, ExcelDateTimeType};
@@ -68,10 +69,10 @@ pub(crate) fn read_cell(bytes: &[u8; 9]) -> Option<Data>
     ensures { result ≡ decoded bytes.now }
 {
     let content = bytes.last_chunk::<8>().unwrap();
-    let (halves, _) = content.as_chunks::<4>();
-    let text = TextPart {
-        place: u32::from_le_bytes(halves[0]),
-        len: u32::from_le_bytes(halves[1]),
-    };
-    cell_of(bytes[0], u64::from_le_bytes(*content), text)
+    let Extent { place, len } = Extent::from(*content);
+    cell_of(
+        bytes[0],
+        u64::from_le_bytes(*content),
+        TextPart { place, len },
+    )
 }

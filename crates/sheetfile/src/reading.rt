@@ -18,13 +18,15 @@ fn write_cells(cells: &[[u8; 9]], store: &mut [Data]) -> Result<(), FileFault>
     ensures holds { store.new ≡ placed (λ k. k) 0 (cells_from (cell_in cells.now) 0 (length cells.now)) store.old }
 {
     for (index, bytes) in cells.iter().enumerate() {
-        // by index, since behind a zip with `iter_mut` a proof knows nothing of what was written
+        // By index: behind a zip with `iter_mut` a proof knows nothing of what was written, and over the store's entries alone
+        // the cells would be taken by index.
         store[index] = read_cell(bytes).ok_or(FileFault::Cell(index))?;
     }
     Ok(())
 }
 
-/// Fills the store, and tells where the sheet lies; none for the empty sheet.
+/// Fills the store, and tells the parts of the sheet; none for the empty sheet.
+/// File and store are two loans of the caller's, which part again at a refusal.
 pub(crate) fn fill<'a>(file: &'a [u8], store: &mut [Data]) -> Result<Option<Layout<'a>>, FileFault>
     ensures answers { refusal_of told result ≡ first_no (file_questions file.now (length store.old)) }
     ensures holds { store.new ≡ stored file.now store.old }

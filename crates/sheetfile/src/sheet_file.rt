@@ -44,7 +44,7 @@ pub fn worksheet_range<'a>(
     }
 }
 
-/// Reads a file: the range becomes its sheet over the filled store and the file's text.
+/// Reads a file, for who keeps an old sheet: the range becomes its sheet over the filled store and the file's text.
 /// A refusal leaves the range as it was, and gives the store back.
 pub fn read_sheet<'a>(
     range: &mut Range<'a, Data>,
