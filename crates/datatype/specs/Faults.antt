@@ -1,10 +1,6 @@
 -- What the refusals of a coercion tell.
 use Rattle.std.specs.Prelude.{ℕ, [], ◌∷◌}
 use Rattle.questions.specs.Questions.{Refusal, bare}
-use Rattle.calendar.specs.Serial as calendar
-use Rattle.calendar.specs.declared.civil.DateFault.{DateFault}
-use Rattle.decimal.specs.Fault.{fault_number}
-use Rattle.decimal.specs.declared.fault.NumberFault.{NumberFault}
 use Rattle.datatype.specs.declared.cell_error_type.CellErrorType.{CellErrorType}
 use Rattle.datatype.specs.declared.cell_error_type.CellErrorType.TheVariants.{Div0, NA, Name, Null, Num, Ref, Value, GettingData}
 use Rattle.datatype.specs.declared.coercion_fault.CoercionFault.{CoercionFault}
@@ -32,10 +28,3 @@ told WrongKind = bare 12
 told Unreadable = bare 13
 told OutOfRange = bare 14
 told OutsideCalendar = bare 15
-
--- a refusal of a date, and one of number text, as such
-abbrev pub date_told : DateFault → Refusal
-date_told f = bare (calendar.number f)
-
-abbrev pub number_told : NumberFault → Refusal
-number_told f = bare (fault_number f)

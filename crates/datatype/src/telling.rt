@@ -1,6 +1,8 @@
 // What the refusals of a coercion tell, and refusals of number text and of dates as such.
 ghost use Rattle.std.specs.Prelude.{◌≡◌};
-ghost use Rattle.datatype.specs.Faults.{told, date_told, number_told};
+ghost use Rattle.calendar.specs.Serial.{told as date_told};
+ghost use Rattle.decimal.specs.Fault.{told as number_told};
+ghost use Rattle.datatype.specs.Faults.{told};
 
 use crate::coercion_fault::CoercionFault;
 use calendar::civil::DateFault;
