@@ -2,7 +2,8 @@
 use crate::cell_error_type::CellErrorType;
 use crate::excel_date_time::ExcelDateTime;
 
-/// A part of the lent text: where it starts there, and its bytes. Who keeps a header keeps its place and length.
+/// A part of the lent text: where it starts there, and its bytes. A header is kept by its place and length, since there is
+/// no heap for a copy.
 #[derive(Clone, Copy)]
 pub struct TextValue<'a> {
     pub place: usize,

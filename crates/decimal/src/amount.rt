@@ -49,6 +49,7 @@ pub(crate) fn read_amount(digits: Digits<'_>) -> Option<f64>
     if number == 0 {
         return Some(0.0);
     }
+    // As a whole number is read; what follows differs, and a function for these two lines would be no plainer.
     let minus = exponent.minus;
     let size = read_digits(0, exponent.size)?;
     let scale = find_scale(Signed { minus, size }, fraction.len())?;

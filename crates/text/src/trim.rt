@@ -2,7 +2,7 @@
 ghost use Rattle.std.specs.Prelude.{◌≡◌, ℕ, ◌+◌, ◌≤◌, List, length, take, drop};
 ghost use Rattle.text.specs.Trimming.{trimmed, trimmed_start, Trims, Leaves};
 
-/// A part of some bytes: where it starts, and how many bytes it has. It can be kept without the bytes.
+/// A part of some bytes: where it starts, and how many bytes it has. It is kept in place of a copy, for which there is no heap.
 #[derive(Clone, Copy, PartialEq, Eq, Debug)]
 pub struct Part {
     pub start: usize,
