@@ -19,7 +19,7 @@ pub(crate) struct Elapsed {
 }
 
 impl Elapsed {
-    /// The days since day 0.
+    /// The days since day 0, minus zero as zero; refused below 0, for not-a-number, and from the end of the calendar on.
     #[tactic(auto, using(crate::proofs::Acceptance::by_day, crate::proofs::Acceptance::same_millis))]
     pub(crate) fn from_serial(serial: f64) -> Result<Elapsed, DateFault>
         ensures accepts { (is1904 : Bool) → accepted is1904 serial ≡ (is_ok result && nat_le (day_of serial) (last_day is1904)) }

@@ -40,6 +40,7 @@ impl SerialDay {
         }
         Ok(SerialDay {
             is_1904,
+            // it fits: a `try_from` would add a refusal that never comes
             number: number as u32,
         })
     }

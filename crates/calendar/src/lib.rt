@@ -30,7 +30,7 @@ pub fn to_ymd_hms_milli(serial: f64, is_1904: bool) -> Result<CivilTime, DateFau
 {
     let count = Elapsed::from_serial(serial)?.millis();
     let day = SerialDay::new(is_1904, count / MILLIS_IN_DAY)?;
-    // Each part of the time is a remainder that fits its field.
+    // Each part of the time is a remainder that fits its field: a `try_from` would add a refusal that never comes.
     Ok(CivilTime {
         date: day.date(),
         hour: (count / MILLIS_IN_HOUR % 24) as u8,

@@ -61,6 +61,7 @@ impl YearDay {
         let fours = of_century / DAYS_IN_4_YEARS;
         let of_four = of_century % DAYS_IN_4_YEARS;
         let ones = (of_four / DAYS_IN_YEAR).min(3);
+        // years and days fit their fields: a `try_from` would add a refusal that never comes
         let year = (1601 + cycles * 400 + centuries * 100 + fours * 4 + ones) as u16;
         YearDay {
             year,

@@ -20,7 +20,7 @@ impl ExcelDateTime {
         }
     }
 
-    // The two questions have calamine's names.
+    // Two calls, and not one with a parameter: calamine has both.
 
     /// Whether it is a length of time.
     pub fn is_duration(&self) -> bool

@@ -8,8 +8,8 @@ use crate::digits::Digits;
 use number::digits::read_digits;
 use number::sign::Signed;
 
-/// The powers of ten that are floats exactly. A table: one look-up in place of the products of
-/// `powi`, each of which is rounded.
+/// The powers of ten that are floats exactly. A table: its entries are exact as they stand, while
+/// each product of `powi` would have to be shown so.
 const TENS: [f64; 23] = [
     1e0, 1e1, 1e2, 1e3, 1e4, 1e5, 1e6, 1e7, 1e8, 1e9, 1e10, 1e11, 1e12, 1e13, 1e14, 1e15, 1e16,
     1e17, 1e18, 1e19, 1e20, 1e21, 1e22,
@@ -68,6 +68,8 @@ fn find_scale(power: Signed<u64>, places: usize) -> Option<i32>
     requires { power.size < 10 ^ 4 }
     ensures { result ≡ (if in_reach (under_sign power.minus power.size -ℤ pos places) then Some (under_sign power.minus power.size -ℤ pos places) else None) }
 {
+    // Sizes and places are small: a `try_from` would add a refusal that never comes. The sign is put on
+    // here, since each type asks something else of a negation.
     let size = power.size as i32;
     let exponent = if power.minus { -size } else { size };
     let scale = exponent - places.min(MANY_PLACES) as i32;

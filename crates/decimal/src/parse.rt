@@ -23,7 +23,7 @@ pub fn parse_float(text: &[u8]) -> Result<f64, NumberFault>
     let (whole, rest) = split_digits(body);
     let (fraction, rest) = split_fraction(rest);
     let exponent = split_exponent(rest).ok_or(NumberFault::NotANumber)?;
-    // One test of both, with no branch in between.
+    // Both at once: digits on one side of the point are enough.
     if whole.is_empty() & fraction.is_empty() {
         return Err(NumberFault::NotANumber);
     }
@@ -33,5 +33,6 @@ pub fn parse_float(text: &[u8]) -> Result<f64, NumberFault>
         exponent,
     };
     let size = read_amount(digits).ok_or(NumberFault::OutOfRange)?;
+    // a float's negation asks nothing, unlike a whole number's
     Ok(if minus { -size } else { size })
 }

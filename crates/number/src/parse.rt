@@ -30,6 +30,7 @@ fn parse_digits<W: Width>(digits: Signed<&[u8]>) -> Option<W>
     if digits.size.is_empty() {
         return None;
     }
+    // Two lines, as where an exponent is read; what follows differs.
     let size = read_digits(0, digits.size)?;
     let minus = digits.minus;
     let number = Signed { minus, size }.to_whole()?;

@@ -68,6 +68,7 @@ impl Width for u32 {
     }
 
     fn narrow_whole(n: i64) -> u32 {
+        // low bits fit: a `try_from` would add a refusal that never comes
         (n.cast_unsigned() & 0xffff_ffff) as u32
     }
 }

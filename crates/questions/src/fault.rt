@@ -2,7 +2,7 @@
 ghost use Rattle.std.specs.Prelude.{◌≡◌};
 ghost use Rattle.questions.specs.Questions.{Refusal};
 
-/// A reason to refuse. Anyone may add a kind of them; each reason tells one number.
+/// A reason to refuse. A crate may have its own type of reasons; each reason has one number.
 pub trait Fault {
     // What the refusal tells: its number, and the values that it carries.
     ghost told: { Self → Refusal };

@@ -1,5 +1,5 @@
 -- Rows and cells taken from the front and from the back.
-use Rattle.std.proofs.Common.{◌≡◌, ℕ, zero, suc, ◌+◌, ◌*◌, ◌/◌, ◌%◌, ◌<◌, ◌≤◌, List, [], ◌∷◌, ◌++◌, length, take, drop, Some, None, Option, sym, refl, ap, ◌∙◌, subst, suc-mul, zero-mul, append-nil, arith, length-drop}
+use Rattle.std.proofs.Common.{◌≡◌, ℕ, zero, suc, ◌+◌, ◌-◌, ◌*◌, ◌/◌, ◌%◌, ◌<◌, ◌≤◌, List, [], ◌∷◌, ◌++◌, length, take, drop, Some, None, Option, sym, refl, ap, ◌∙◌, subst, suc-mul, zero-mul, append-nil, arith, length-drop}
 use Rattle.std.specs.Borrow.{Bor}
 use Rattle.std.specs.Iterator.{YieldsFirstBy, YieldsFirstRef, YieldsLastBy, YieldsLastRef, MakesProgress, item_count}
 use Rattle.std.specs.Slice.Iter.{chunks_exact_rest, chunks_exact_size, chunks_exact_steps}
@@ -32,6 +32,15 @@ row_counted width n some =
     let sum : width + n ≡ suc q * width + n % width = omega (arith, div-add-mod' n width, suc-mul q width) in
     (ap (λ m. m / width) sum ∙ div-mul-add (suc q) width (n % width) low, ap (λ m. m % width) sum ∙ mod-mul-add (suc q) width (n % width) low)
 
+-- the first row, and the rows after it
+pub first_row_cut : {C : Type 0} (left width : ℕ) (cells row rest : List C) → 0 < left → row ≡ take width cells → rest ≡ drop width cells → cut_rows left width cells ≡ row ∷ cut_rows (left - 1) width rest
+first_row_cut zero width cells row rest some front back = absurd (omega arith)
+first_row_cut (suc left) width cells row rest some front back =
+    let one : suc left - 1 ≡ left = omega arith in
+    ap (λ l. l ∷ cut_rows left width (drop width cells)) (sym front)
+    ∙ ap (λ l. row ∷ cut_rows left width l) (sym back)
+    ∙ ap (λ n. row ∷ cut_rows n width rest) (sym one)
+
 module _ {C : Type 0} (width : ℕ) (some : 0 < width) where
   -- cells that do not fill a row make none
   pub no_row : (cells : List C) → length cells < width → whole_rows width cells ≡ []
@@ -45,12 +54,13 @@ module _ {C : Type 0} (width : ℕ) (some : 0 < width) where
   row_in_front cells row rest e wide =
       let long : length cells ≡ width + length rest = ap length e ∙ length-append row rest ∙ ap (λ n. n + length rest) wide in
       let counted = row_counted width (length rest) some in
+      let one : suc (length rest / width) - 1 ≡ length rest / width = omega arith in
       let front : take width cells ≡ row = ap (take width) e ∙ take-append-le width row rest (omega (arith, wide)) ∙ take_all width row (omega (arith, wide)) in
       let back : drop width cells ≡ rest = ap (drop width) e ∙ drop-append-le width row rest (omega (arith, wide)) ∙ ap (λ l. l ++ rest) (drop_all width row (omega (arith, wide))) in (
         ap (λ n. cut_rows (n / width) width cells) long
             ∙ ap (λ k. cut_rows k width cells) counted.0
-            ∙ ap (λ l. l ∷ cut_rows (length rest / width) width (drop width cells)) front
-            ∙ ap (λ l. row ∷ cut_rows (length rest / width) width l) back,
+            ∙ first_row_cut (suc (length rest / width)) width cells row rest (omega arith) (sym front) (sym back)
+            ∙ ap (λ n. row ∷ cut_rows n width rest) one,
         ap (λ n. n % width) long ∙ counted.1,
       )
 

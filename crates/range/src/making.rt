@@ -1,5 +1,5 @@
 // Making a sheet from its parts.
-ghost use Rattle.std.specs.Prelude.{◌≡◌, ◌*◌, ◌^◌, ◌≤◌, false, [], length, is_ok, IfOk, Ok};
+ghost use Rattle.std.specs.Prelude.{◌≡◌, ◌*◌, ◌^◌, ◌≤◌, true, false, [], length, is_ok, IfOk, Ok};
 ghost use Rattle.questions.specs.Questions.{refusal_of, first_no};
 ghost use Rattle.range.specs.Shapes.{Lawful, rows_of, columns_of};
 ghost use Rattle.range.specs.Making.{told, making, corner_questions};
@@ -41,6 +41,7 @@ impl<'a, T> Range<'a, T> {
     ) -> Result<Range<'a, T>, RangeFault>
         ensures answers { refusal_of told result ≡ making corners (length cells.now) }
         ensures made { IfOk result (λ range. sheet range ≡ made_of corners cells.now text.now) }
+        ensures lawful { (Lawful corners (length cells.now) → is_ok result ≡ true) × (is_ok result ≡ true → Lawful corners (length cells.now)) }
     {
         let area = Area::new(corners)?;
         if cells.len() != area.cell_count() {

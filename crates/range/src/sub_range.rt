@@ -1,4 +1,4 @@
-// A part of a sheet, or a larger sheet around it, copied into the caller's store.
+// A part of a sheet, or a larger sheet around it, copied into the caller's store: a device has no heap.
 ghost use Rattle.std.specs.Prelude.{◌≡◌, ◌*◌, ◌<◌, ◌≤◌, true, false, ◌++◌, length, drop, is_ok, IfOk};
 ghost use Rattle.questions.specs.Questions.{refusal_of};
 ghost use Rattle.range.specs.Shapes.{rows_of, columns_of};
@@ -16,6 +16,7 @@ impl<'a, T: Copy> Range<'a, T> {
         requires { place < rows_of part.corners * columns_of part.corners }
         ensures { result ≡ part_cell (sheet self.now) part.corners empty place }
     {
+        // rows and columns fit: a `try_from` would add a refusal that never comes
         let row = part.corners.first_row + (place / part.width()) as u32;
         let column = part.corners.first_column + (place % part.width()) as u32;
         self.get_value((row, column)).copied().unwrap_or(empty)

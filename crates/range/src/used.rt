@@ -35,7 +35,7 @@ impl<'a, T: Cell> Iterator for UsedCells<'a, T> {
     }
 }
 
-// The back is a trait of its own, and so is written beside the front.
+// `next_back` belongs to another trait than `next`, so each is written out.
 impl<'a, T: Cell> DoubleEndedIterator for UsedCells<'a, T> {
     ghost next_back_gives = { YieldsLastBy cell_shown (used_left T.Cell.meaning) };
 

@@ -46,7 +46,7 @@ impl<'a, T> Iterator for Rows<'a, T> {
     }
 }
 
-// The back is a trait of its own, and so is written beside the front.
+// `next_back` belongs to another trait than `next`, so each is written out.
 impl<'a, T> DoubleEndedIterator for Rows<'a, T> {
     ghost next_back_gives = { YieldsLastRef rows_left };
 
@@ -74,7 +74,7 @@ impl<'a, T> Iterator for Cells<'a, T> {
     }
 }
 
-// The back is a trait of its own, and so is written beside the front.
+// `next_back` belongs to another trait than `next`, so each is written out.
 impl<'a, T> DoubleEndedIterator for Cells<'a, T> {
     ghost next_back_gives = { YieldsLastBy cell_shown cells_left };
 

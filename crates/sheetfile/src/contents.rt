@@ -2,6 +2,7 @@
 ghost use Rattle.std.specs.Prelude.{◌≡◌, ◌&&◌, ◌||◌, ◌==◌};
 ghost use Rattle.sheetfile.specs.Contents.{extent_at, contents_of, behind, gapless, no_parts};
 
+/// A place and a length, as the file holds them.
 #[derive(Clone, Copy)]
 pub(crate) struct Extent {
     pub(crate) place: u32,

@@ -26,7 +26,7 @@ fn write_cells(cells: &[[u8; 9]], store: &mut [Data]) -> Result<(), FileFault>
 }
 
 /// Fills the store, and tells the parts of the sheet; none for the empty sheet.
-/// File and store are two loans of the caller's, which part again at a refusal.
+/// File and store are not one struct: a sheet keeps both, but a refusal gives back the store alone.
 pub(crate) fn fill<'a>(file: &'a [u8], store: &mut [Data]) -> Result<Option<Layout<'a>>, FileFault>
     ensures answers { refusal_of told result ≡ first_no (file_questions file.now (length store.old)) }
     ensures holds { store.new ≡ stored file.now store.old }

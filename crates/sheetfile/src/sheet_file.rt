@@ -1,4 +1,4 @@
-// A file read into a store, and the sheet that is then lent the store.
+// A file read into the caller's store, since a device has no heap, and the sheet that is then lent the store.
 ghost use Rattle.std.specs.Prelude.{◌≡◌, true, length, is_ok, IfOk, IfErr, Ok};
 ghost use Rattle.questions.specs.Questions.{refusal_of, first_no};
 ghost use Rattle.range.specs.Sheets.{sheet};

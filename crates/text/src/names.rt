@@ -5,7 +5,8 @@ ghost use Rattle.text.specs.Naming.{Lies, Sound, slice, name_start, name_end, na
 use crate::utf8::is_utf8;
 
 /// Names in one text. Each runs from the end before it (the first: from 0) to its own end.
-/// The caller lends the text and the ends: a device without heap has no room of its own for a list of texts.
+/// The caller lends the text and the ends: a device without heap has no room of its own for a list of texts. The clauses
+/// name both, so that a reader has the two lists in sight.
 #[derive(Clone, Copy)]
 pub struct Names<'text, 'ends> {
     pub text: &'text [u8],
