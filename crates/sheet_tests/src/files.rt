@@ -15,7 +15,8 @@ const GOOD: [u8; 60] = [
     b'o', b'k',
 ];
 
-// a byte of the good file changed, and the number that then refuses; 0 where the file is still read
+// a byte of the good file changed, and the number that then refuses; 0 where the file is still read, since an option in
+// each row would be no plainer
 const CHANGES: [(usize, u8, u8); 17] = [
     (0, 25, 18),
     (4, 15, 18),

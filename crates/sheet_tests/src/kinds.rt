@@ -17,7 +17,7 @@ use std::test::Fail;
 // the bytes of é are 195 and 169
 const TEXT: &[u8] = b"RA \xc3\xa9";
 
-/// The number of the refusal of a cell's header text; 0 if it has one.
+/// The number of the refusal of a cell's header text; 0 if it has one, which compares with a bare number.
 fn refused<C: Cell>(cell: &C) -> u8 {
     match header_text(cell, TEXT) {
         Ok(_) => 0,

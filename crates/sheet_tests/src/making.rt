@@ -4,7 +4,8 @@ use range::corners::Corners;
 use range::fault::RangeFault;
 use range::sheet::Range;
 
-// first row, first column, last row, last column, cells given, and the number that refuses; 0 where the sheet is made
+// first row, first column, last row, last column, cells given, and the number that refuses; 0 where the sheet is made,
+// since an option in each row would be no plainer
 const CASES: [(u32, u32, u32, u32, usize, u8); 16] = [
     (0, 0, 0, 0, 1, 0),
     (0, 0, 1, 2, 6, 0),

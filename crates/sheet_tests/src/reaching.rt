@@ -35,7 +35,7 @@ fn by_number(rt: HostRuntime) -> Result<(), Fail> {
     range.make(CORNERS, &cells, b"")?;
     assert_eq!(rt; range.width(), 3);
     assert_eq!(rt; range.height(), 2);
-    // relative: row, column, and the cell, 0 for none
+    // relative: row, column, and the cell, 0 for none, since an option in each row would be no plainer
     for (row, column, wanted) in [
         (0, 0, 10),
         (0, 2, 12),
