@@ -18,9 +18,12 @@ fn write_cells(cells: &[[u8; 9]], store: &mut [Data]) -> Result<(), FileFault>
     ensures holds { store.new ≡ placed (λ k. k) 0 (cells_from (cell_in cells.now) 0 (length cells.now)) store.old }
 {
     for (index, bytes) in cells.iter().enumerate() {
+        let Some(cell) = read_cell(bytes) else {
+            return Err(FileFault::Cell(index));
+        };
         // By index: behind a zip with `iter_mut` a proof knows nothing of what was written, and over the store's entries alone
         // the cells would be taken by index.
-        store[index] = read_cell(bytes).ok_or(FileFault::Cell(index))?;
+        store[index] = cell;
     }
     Ok(())
 }

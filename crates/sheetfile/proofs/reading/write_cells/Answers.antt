@@ -7,8 +7,8 @@ pub loop-index-preserved : goal.loop-index-preserved
 loop-index-preserved c =
     let cell = cell_in c.args.cells.now in
     let count = length c.args.cells.now in
-    let is = sym c.read_cell.ensures ∙ c.in_ok-store.ensures.ok_part in
+    let is = sym c.in-Some.ensures in
     record {
-      answers = good_questions cell (λ k. k) c.loop-index.store count c.loop-index.index c.in_ok-store.field-0 c.loop-index-test.true is ∙ c.loop-index.invariant.answers;
-      holds = good_cells cell (λ k. k) c.loop-index.store count c.loop-index.index c.in_ok-store.field-0 c.loop-index-test.true is ∙ c.loop-index.invariant.holds;
+      answers = good_questions cell (λ k. k) c.loop-index.store count c.loop-index.index c.in-Some.cell c.loop-index-test.true is ∙ c.loop-index.invariant.answers;
+      holds = good_cells cell (λ k. k) c.loop-index.store count c.loop-index.index c.in-Some.cell c.loop-index-test.true is ∙ c.loop-index.invariant.holds;
     }
