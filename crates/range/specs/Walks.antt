@@ -1,8 +1,8 @@
 -- Rows and cells taken one after another, from the front or from the back.
-use Rattle.std.specs.Prelude.{ℕ, zero, suc, ◌+◌, ◌/◌, ◌%◌, List, [], ◌∷◌, length, take, drop}
+use Rattle.std.specs.Prelude.{ℕ, zero, suc, ◌+◌, ◌/◌, ◌%◌, List, [], ◌∷◌, take, drop}
 use Rattle.std.specs.Borrow.{Bor}
 use Rattle.std.specs.Iterator.Adapters.{enumerate_count, enumerate_source}
-use Rattle.std.specs.Slice.Iter.{iter_rest, chunks_exact_rest, chunks_exact_size}
+use Rattle.std.specs.Slice.Iter.{iter_rest}
 use Rattle.range.specs.Sheets.{Sheet, height, width}
 use Rattle.range.specs.declared.rows.Rows.{Rows}
 use Rattle.range.specs.declared.cells.Cells.{Cells}
@@ -15,12 +15,8 @@ cut_rows (suc rows) width cells = take width cells ∷ cut_rows rows width (drop
 abbrev pub rows_of_sheet : {C : Type 0} → Sheet C → List (List C)
 rows_of_sheet s = cut_rows (height s) (width s) s.cells
 
--- as many rows of a width as the cells fill
-abbrev pub whole_rows : {C : Type 0} → ℕ → List C → List (List C)
-whole_rows width cells = cut_rows (length cells / width) width cells
-
 abbrev pub rows_left : {C : Type 0} → Rows C → List (List C)
-rows_left r = whole_rows (chunks_exact_size r.rows) (chunks_exact_rest r.rows)
+rows_left r = cut_rows r.left r.width r.cells.now
 
 -- cells with their row and column, from the cell at a place on
 abbrev pub numbered : {C : Type 0} → ℕ → ℕ → List C → List (ℕ × ℕ × C)

@@ -1,12 +1,12 @@
 // The rows of a sheet that are still to be taken.
-ghost use Rattle.std.specs.Prelude.{◌≡◌, ◌%◌, ◌<◌, length};
-ghost use Rattle.std.specs.Slice.Iter.{chunks_exact_rest, chunks_exact_size};
-
-use std::slice::ChunksExact;
+ghost use Rattle.std.specs.Prelude.{◌≡◌, ◌*◌, length};
 
 #[derive(Drop)]
 pub struct Rows<'a, T> {
-    pub(crate) rows: ChunksExact<'a, T>,
-    ghost wide: { 0 < chunks_exact_size rows },
-    ghost whole: { length (chunks_exact_rest rows) % chunks_exact_size rows ≡ 0 },
+    /// row after row
+    pub(crate) cells: &'a [T],
+    pub(crate) width: usize,
+    /// how many rows the cells make
+    pub(crate) left: usize,
+    ghost whole: { length cells.now ≡ left * width },
 }

@@ -1,6 +1,8 @@
 // A sheet cell after cell, without the empty ones, from the front or from the back.
-ghost use Rattle.std.specs.Prelude.{◌≡◌};
-ghost use Rattle.std.specs.Iterator.{YieldsFirstBy, YieldsLastBy, item_count};
+ghost use Rattle.std.specs.Prelude.{◌≡◌, length};
+ghost use Rattle.std.specs.Iterator.{YieldsFirstBy, YieldsLastBy, at_most};
+ghost use Rattle.std.specs.Iterator.Adapters.{enumerate_source};
+ghost use Rattle.std.specs.Slice.Iter.{iter_rest};
 ghost use Rattle.range.specs.Sheets.{sheet};
 ghost use Rattle.range.specs.Walks.{cells_of_sheet, cell_shown};
 ghost use Rattle.range.specs.Used.{used_only, empty_over, used_left};
@@ -27,7 +29,8 @@ impl<'a, T: Cell> Iterator for UsedCells<'a, T> {
 
     ghost next_gives = { YieldsFirstBy cell_shown (used_left T.Cell.meaning) };
 
-    ghost remaining = { item_count (used_left T.Cell.meaning) };
+    // All cells that are left, empty or not: how many are used, only a walk over them tells.
+    ghost remaining = { λ walk. at_most (length (iter_rest (enumerate_source walk.cells.cells))) };
 
     fn next(&mut self) -> Option<(usize, usize, &'a T)> {
         let text = self.text;

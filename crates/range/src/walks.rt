@@ -1,7 +1,9 @@
 // A sheet row after row, or cell after cell, from the front or from the back.
 ghost use Rattle.std.specs.Prelude.{◌≡◌, ℕ, ◌*◌, length, Some};
-ghost use Rattle.std.specs.Iterator.{YieldsFirstBy, YieldsFirstRef, YieldsLastBy, YieldsLastRef, item_count};
+ghost use Rattle.std.specs.Iterator.{YieldsFirstBy, YieldsFirstRef, YieldsLastBy, YieldsLastRef, IsFinite, at_most, size};
+ghost use Rattle.std.specs.Iterator.Adapters.{enumerate_source};
 ghost use Rattle.std.specs.List.{slice_get};
+ghost use Rattle.std.specs.Slice.Iter.{iter_rest};
 ghost use Rattle.range.specs.Sheets.{sheet, height, width, row_at, cell_at};
 ghost use Rattle.range.specs.Walks.{rows_left, rows_of_sheet, cells_left, cells_of_sheet, cell_shown};
 
@@ -15,9 +17,11 @@ impl<'a, T> Range<'a, T> {
         ensures all { rows_left result ≡ rows_of_sheet (sheet self.now) }
         ensures rows { (k : ℕ) → slice_get (rows_left result) k ≡ row_at (sheet self.now) k }
     {
-        // The empty sheet has no cells to cut, and any width but 0 will do.
+        let (left, width) = self.get_size();
         Rows {
-            rows: self.cells.chunks_exact(self.width().max(1)),
+            cells: self.cells,
+            width,
+            left,
         }
     }
 
@@ -39,10 +43,20 @@ impl<'a, T> Iterator for Rows<'a, T> {
 
     ghost next_gives = { YieldsFirstRef rows_left };
 
-    ghost remaining = { item_count rows_left };
+    // A number that the walk has, and no length of a list of items: so a caller's `count` is seen to fit.
+    ghost remaining = { λ rows. at_most rows.left };
 
     fn next(&mut self) -> Option<&'a [T]> {
-        self.rows.next()
+        if self.left == 0 {
+            return None;
+        }
+        let (row, rest) = self.cells.split_at(self.width);
+        *self = Rows {
+            cells: rest,
+            width: self.width,
+            left: self.left - 1,
+        };
+        Some(row)
     }
 }
 
@@ -51,13 +65,28 @@ impl<'a, T> DoubleEndedIterator for Rows<'a, T> {
     ghost next_back_gives = { YieldsLastRef rows_left };
 
     fn next_back(&mut self) -> Option<&'a [T]> {
-        self.rows.next_back()
+        if self.left == 0 {
+            return None;
+        }
+        let before = self.cells.len() - self.width;
+        let (rest, row) = self.cells.split_at(before);
+        *self = Rows {
+            cells: rest,
+            width: self.width,
+            left: self.left - 1,
+        };
+        Some(row)
     }
 }
 
 impl<'a, T> ExactSizeIterator for Rows<'a, T> {
-    fn len(&self) -> usize {
-        self.rows.len()
+    #[tactic(auto, using(crate::proofs::Taking::count_cut))]
+    fn len(&self) -> usize
+        ensures finite { IsFinite (at_most self.now.left) }
+        ensures value { result ≡ size (at_most self.now.left) }
+        ensures counts { result ≡ length (rows_left self.now) }
+    {
+        self.left
     }
 }
 
@@ -66,7 +95,8 @@ impl<'a, T> Iterator for Cells<'a, T> {
 
     ghost next_gives = { YieldsFirstBy cell_shown cells_left };
 
-    ghost remaining = { item_count cells_left };
+    // The cells themselves, and not the list of items, as for rows.
+    ghost remaining = { λ walk. at_most (length (iter_rest (enumerate_source walk.cells))) };
 
     fn next(&mut self) -> Option<(usize, usize, &'a T)> {
         let (place, front) = self.cells.next()?;
@@ -85,7 +115,12 @@ impl<'a, T> DoubleEndedIterator for Cells<'a, T> {
 }
 
 impl<'a, T> ExactSizeIterator for Cells<'a, T> {
-    fn len(&self) -> usize {
+    #[tactic(auto, using(crate::proofs::WalkLaws::length_numbered))]
+    fn len(&self) -> usize
+        ensures finite { IsFinite (at_most (length (iter_rest (enumerate_source self.now.cells)))) }
+        ensures value { result ≡ size (at_most (length (iter_rest (enumerate_source self.now.cells)))) }
+        ensures counts { result ≡ length (cells_left self.now) }
+    {
         self.cells.len()
     }
 }

@@ -3,9 +3,8 @@ use Rattle.std.specs.List.{slice_get}
 use Rattle.std.specs.Slice.Iter.{iter_rest}
 use Rattle.range.specs.Areas.{corners_of}
 use Rattle.range.specs.Sheets.{sheet, height, width}
-use Rattle.range.proofs.Cutting.{sheet_numbered}
 use Rattle.range.proofs.ShapeLaws.{grid_count}
-use Rattle.range.proofs.WalkLaws.{length_numbered, cell_by_numbers}
+use Rattle.range.proofs.WalkLaws.{length_numbered, sheet_numbered, cell_by_numbers}
 use Rattle.range.proofs.sheet.Range.cells.Goals as goal
 
 pub returns : goal.returns

@@ -1,7 +1,6 @@
-use Rattle.std.proofs.Common.{rules, tests}
-use Rattle.range.specs.Used.{empty_over, used_left}
+use Rattle.std.proofs.Common.{arith, rules, tests}
+use Rattle.range.specs.Used.{empty_over}
 use Rattle.range.specs.Walks.{cell_shown, cells_left}
-use Rattle.range.proofs.Taking.{last_progress}
 use Rattle.range.proofs.UsedLaws.{back_found}
 use Rattle.range.proofs.used.UsedCellsDoubleEndedIterator.next_back.Goals as goal
 
@@ -11,4 +10,4 @@ returns g c =
     let taken =
     back_found cell_shown cells_left (empty_over g.T.Cell.meaning walk.text.now) _ walk.cells c.rfind.new.self c.rfind.result c.rfind.ensures.ran
     (λ x q k. search (rules, tests)) (λ x q k. search (rules, tests)) in
-    record { steps = taken; goes = last_progress cell_shown (used_left g.T.Cell.meaning) _ (λ s. tt) _ _ c.rfind.result taken }
+    record { steps = grind (arith, taken); goes = search rules }

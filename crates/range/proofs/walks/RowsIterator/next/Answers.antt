@@ -1,15 +1,18 @@
-use Rattle.range.specs.Walks.{rows_left}
-use Rattle.range.proofs.Taking.{first_cut, first_progress}
+use Rattle.std.proofs.Common.{length, arith, rules}
+use Rattle.range.proofs.Places.{row_fits}
+use Rattle.range.proofs.Taking.{first_row_cut}
 use Rattle.range.proofs.walks.RowsIterator.next.Goals as goal
 
-pub invariant_of-self : goal.invariant_of-self
-invariant_of-self g c =
+pub split_at-requires : goal.split_at-requires
+split_at-requires g c =
     let rows = c.args.self.now in
-    let filled = (first_cut rows.rows c.next.new.self c.next.result (rows.wide, rows.whole) c.next.ensures.steps).1 in
-    record { wide = filled.0; whole = filled.1 }
+    omega (arith, row_fits rows.left rows.width (length rows.cells.now) (omega arith) rows.whole)
 
 pub returns : goal.returns
 returns g c =
     let rows = c.args.self.now in
-    let taken = (first_cut rows.rows c.next.new.self c.next.result (rows.wide, rows.whole) c.next.ensures.steps).0 in
-    record { steps = taken; goes = first_progress (λ x. x.now) rows_left _ (λ s. tt) _ _ c.next.result taken }
+    let told = c.split_at.ensures in
+    record {
+      steps = first_row_cut rows.left rows.width rows.cells.now c.split_at.result.0.now c.split_at.result.1.now (omega arith) (grind (arith, told.front)) (grind (arith, told.back));
+      goes = search rules;
+    }
