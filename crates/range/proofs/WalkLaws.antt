@@ -34,10 +34,6 @@ pub length_numbered : {C : Type 0} (width place : ℕ) (cells : List C) → leng
 length_numbered width place [] = refl
 length_numbered width place (c ∷ cells) = ap suc (length_numbered width (place + 1) cells)
 
--- cells numbered from the first on
-pub sheet_numbered : {C : Type 0} (width told first : ℕ) (cells left : List C) → told ≡ width → first ≡ 0 → left ≡ cells → numbered told first left ≡ numbered width 0 cells
-sheet_numbered width told first cells left w z same = ap (λ n. numbered n first left) w ∙ ap (λ n. numbered width n left) z ∙ ap (numbered width 0) same
-
 -- what the k-th cell of a walk shows
 nth_numbered : {C : Type 0} (width place : ℕ) (cells : List C) (k row column : ℕ) (c : C) → slice_get (numbered width place cells) k ≡ Some (row, column, c) → (row ≡ (place + k) / width) × (column ≡ (place + k) % width) × (slice_get cells k ≡ Some c) × (k < length cells)
 nth_numbered width place [] k row column c e = absurd (grind arith)

@@ -1,4 +1,4 @@
-use Rattle.std.proofs.Common.{arith, rules, tests}
+use Rattle.std.proofs.Common.{rules, tests}
 use Rattle.range.specs.Used.{empty_over}
 use Rattle.range.specs.Walks.{cell_shown, cells_left}
 use Rattle.range.proofs.UsedLaws.{back_found}
@@ -10,4 +10,4 @@ returns g c =
     let taken =
     back_found cell_shown cells_left (empty_over g.T.Cell.meaning walk.text.now) _ walk.cells c.rfind.new.self c.rfind.result c.rfind.ensures.ran
     (λ x q k. search (rules, tests)) (λ x q k. search (rules, tests)) in
-    record { steps = grind (arith, taken); goes = search rules }
+    record { steps = search (rules, taken); goes = search rules }
