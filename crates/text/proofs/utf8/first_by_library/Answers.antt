@@ -2,7 +2,7 @@ use Rattle.std.proofs.Common.{ℕ, length, take, sym, ap, ◌∙◌, subst, arit
 use Rattle.std.proofs.lemmas.Str.{utf8_valid_len_le}
 use Rattle.text.specs.Encoding.{FirstCharacter}
 use Rattle.text.proofs.Whole.{no_character}
-use Rattle.text.proofs.utf8.first_char.Goals as goal
+use Rattle.text.proofs.utf8.first_by_library.Goals as goal
 
 -- there is no byte
 pub returns-in_err-next : goal.returns-in_err-next
