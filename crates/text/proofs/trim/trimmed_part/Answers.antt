@@ -1,4 +1,4 @@
-use Rattle.std.proofs.Common.{◌-◌, length, sym, ap, ◌∙◌, arith}
+use Rattle.std.proofs.Common.{length, sym, ap, ◌∙◌, arith}
 use Rattle.std.proofs.lemmas.Bool.{eqb-true, eqb-false}
 use Rattle.std.specs.Str.{trim_end}
 use Rattle.text.proofs.LibraryTrim.{start_is, trimmed_is}
@@ -37,5 +37,12 @@ returns c =
     let kept_is = c.trim_end-kept.ensures.trim ∙ ap trim_end c.trim_start-from_first.ensures.trim ∙ trimmed_is bs c.in-Ok.text.now text.1 text.0 in
     let some = eqb-false (length kept) 0 (sym c.is_empty.ensures ∙ c.if-is_empty.false) in
     let start = start_is bs c.in-Ok.text.now text.1 text.0 first c.trim_start-from_first.ensures.trim (omega (arith, some, c.trim_end-kept.ensures.value.4, c.trim_end-kept.ensures.value.5)) in
-    let p = part_is bs (length c.in-Ok.text.now - length first) (length kept) start (ap length kept_is) in
-    record { start = omega (arith, start); len = omega (arith, ap length kept_is); inside = p.0; part = p.1; law = p.2; only = p.3 }
+    let len = ap length kept_is in
+    record {
+      start = omega (arith, start);
+      len = omega (arith, len);
+      inside = (part_is bs _ _ (omega (arith, start)) (omega (arith, len))).0;
+      part = (part_is bs _ _ (omega (arith, start)) (omega (arith, len))).1;
+      law = (part_is bs _ _ (omega (arith, start)) (omega (arith, len))).2;
+      only = (part_is bs _ _ (omega (arith, start)) (omega (arith, len))).3;
+    }
