@@ -12,8 +12,14 @@ returns-in_default c =
     let bs = c.args.bytes.now in
     let start = sym (trimmed_start_other bs c.in_default.ensures.cases.0) in
     let len = ap length (sym (trimmed_other bs c.in_default.ensures.cases.0)) in
-    let p = part_is bs 0 (length bs) start len in
-    record { start = start; len = omega (arith, len); inside = p.0; part = p.1; law = p.2; only = p.3 }
+    record {
+      start = start;
+      len = grind (arith, len);
+      inside = (part_is bs _ _ start (grind (arith, len))).0;
+      part = (part_is bs _ _ start (grind (arith, len))).1;
+      law = (part_is bs _ _ start (grind (arith, len))).2;
+      only = (part_is bs _ _ start (grind (arith, len))).3;
+    }
 
 -- all is blank
 pub returns-then-is_empty : goal.returns-then-is_empty
