@@ -18,6 +18,7 @@ fn write_cells(cells: &[[u8; 9]], store: &mut [Data]) -> Result<(), FileFault>
     ensures holds { store.new ≡ placed (λ k. k) 0 (cells_from (cell_in cells.now) 0 (length cells.now)) store.old }
 {
     for (index, bytes) in cells.iter().enumerate() {
+        // The refusal on a line of its own: what the store then holds is promised, and an edit that must fail writes there.
         let Some(cell) = read_cell(bytes) else {
             return Err(FileFault::Cell(index));
         };
