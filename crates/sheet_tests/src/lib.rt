@@ -4,6 +4,8 @@
 #[cfg(test)]
 mod cells;
 #[cfg(test)]
+mod counting;
+#[cfg(test)]
 mod files;
 #[cfg(test)]
 mod kinds;
